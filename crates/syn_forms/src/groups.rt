@@ -50,7 +50,7 @@ impl<
     'a,
     P: Copy,
     T: Tree<P>,
-    F: Fn(Global, PhantomData<T>, &mut ParseStream<'_>, P) -> Result<T, Error>,
+    F: Fn(Global, PhantomData<T>, &mut ParseStream<'_>, P) -> Result<Boxed<T>, Error>,
 > Nested<'a, P, T, F> {
     /// A tree in brackets.
     #[tactic(auto, using(token_core::proofs::Suffixes::follows))]
@@ -196,10 +196,12 @@ impl<
         ensures parses { Parses (reading.type_or_elements (below.held T.read (length self.now.begin) place))
             result input.old input.new }
     {
-        let value = self.value(input, place)?;
+        // boxed: one word is held while the elements are read
+        let value = self.boxed(input, place)?;
         if input.peek::<Comma>() {
-            return Ok(ParenContent::Elements(self.more_elements(input, place, value)?));
+            let elems = self.more_elements(input, place, value.into_inner())?;
+            return Ok(ParenContent::Elements(elems));
         }
-        Ok(ParenContent::One(Boxed::new(self.alloc, value)?))
+        Ok(ParenContent::One(value))
     }
 }

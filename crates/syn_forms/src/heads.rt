@@ -18,7 +18,7 @@ impl<
     'a,
     P: Copy,
     T: Tree<P>,
-    F: Fn(Global, PhantomData<T>, &mut ParseStream<'_>, P) -> Result<T, Error>,
+    F: Fn(Global, PhantomData<T>, &mut ParseStream<'_>, P) -> Result<Boxed<T>, Error>,
 > Nested<'a, P, T, F> {
     /// `<`, values joined by commas, and `>`.
     #[tactic(auto, using(token_core::proofs::Suffixes::follows), unfolding(crate::specs::heads::Reading::angled))]

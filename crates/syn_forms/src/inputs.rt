@@ -166,7 +166,7 @@ impl<
     'a,
     P: Copy,
     T: Tree<P>,
-    F: Fn(Global, PhantomData<T>, &mut ParseStream<'_>, P) -> Result<T, Error>,
+    F: Fn(Global, PhantomData<T>, &mut ParseStream<'_>, P) -> Result<Boxed<T>, Error>,
 > Nested<'a, P, T, F> {
     // ---- an argument after its attributes
 

@@ -1,6 +1,6 @@
 //! Lists: values joined by marks, up to where a test says that the list ends.
 
-ghost use Rattle.std.specs.Prelude.{◌≡◌, ◌<◌, ◌≤◌, length, true, Bool, IfOk};
+ghost use Rattle.std.specs.Prelude.{◌≡◌, ◌<◌, ◌≤◌, [], ◌∷◌, ◌++◌, length, true, Bool, IfOk, OnOk};
 ghost use Rattle.token_core.specs.Loops.{after, never, terminated};
 ghost use Rattle.token_core.specs.Tokens as token;
 ghost use Rattle.token_core.specs.Toks.{Toks};
@@ -13,10 +13,10 @@ ghost use Rattle.syn_forms.specs.nested.Below.{Nests, ahead};
 
 use crate::nested::{Nested, Tree};
 use crate::tokens::{parse_comma, parse_plus};
-use std::alloc::Global;
+use std::alloc::{AllocError, Global};
 use std::marker::PhantomData;
 use token_core::token::{Bracket, Comma, Eq, Gt, Paren, PathSep, Plus, Question};
-use token_core::{Error, Lifetime, ParseStream, Punctuated};
+use token_core::{Boxed, Error, Lifetime, ParseStream, Punctuated};
 
 /// Where a list ends, and the mark that joins its values.
 pub trait End<M>: Copy {
@@ -236,33 +236,27 @@ impl End<Plus> for ToLifetimeParamEnd {
 
 // ---- lists
 
+/// Puts what is made of a value at the end of a list. It stays out of line: the values of a list may hold lists again, and
+/// so the reader of one keeps no room for a value while it reads the next.
+#[inline(never)]
+fn push_made<T: Drop, V: Drop, M: Drop, K: Make<T, V>>(
+    alloc: Global,
+    list: &mut Punctuated<V, M>,
+    make: K,
+    value: Boxed<T>,
+) -> Result<(), AllocError>
+    requires { length list.old.0 ≡ length list.old.1 }
+    ensures ok { OnOk result (list.new ≡ (list.old.0 ++ K.make make value ∷ [], list.old.1)) }
+{
+    list.push_value(make.make(alloc, value.into_inner()))
+}
+
 impl<
     'a,
     P: Copy,
     T: Tree<P>,
-    F: Fn(Global, PhantomData<T>, &mut ParseStream<'_>, P) -> Result<T, Error>,
+    F: Fn(Global, PhantomData<T>, &mut ParseStream<'_>, P) -> Result<Boxed<T>, Error>,
 > Nested<'a, P, T, F> {
-    /// What is made of a tree that the form holds.
-    #[tactic(auto, using(token_core::proofs::Suffixes::follows))]
-    fn made<V: Drop, K: Make<T, V>>(
-        &self,
-        input: &mut ParseStream<'_>,
-        place: P,
-        make: K,
-    ) -> Result<V, Error>
-        requires nests { Nests T.read (length self.now.begin) (F.pre self.now.read) (F.post self.now.read) }
-        requires few { ahead input.old < length self.now.begin }
-        ensures parses { Parses (reading.made (K.make make) (below.held T.read (length self.now.begin) place))
-            result input.old input.new }
-        ensures fewer { ahead input.new ≤ ahead input.old }
-    {
-        // a match, since `?` would hold the value several times while what it holds is read
-        match self.value(input, place) {
-            Ok(value) => Ok(make.make(self.alloc, value)),
-            Err(e) => Err(e),
-        }
-    }
-
     /// What follows the values and marks that were found: what is made of each value, joined by marks.
     #[tactic(auto, using(token_core::proofs::Suffixes::follows))]
     fn made_after<V: Drop, K: Make<T, V>, M: Drop, S: End<M>>(
@@ -286,8 +280,8 @@ impl<
             if end.is_over(input, first) {
                 return Ok(list);
             }
-            let value = self.made(input, place, make)?;
-            list.push_value(value)?;
+            let value = self.boxed(input, place)?;
+            push_made(self.alloc, &mut list, make, value)?;
             if !end.goes_on(input) {
                 return Ok(list);
             }

@@ -18,13 +18,13 @@ pub trait Tree<P>: Drop {
 /// A tree whose reader is at hand, for what reads one form by itself. The readers of `Nested` don't ask for it: a knot
 /// whose calls go through a method of a trait can't be proved.
 pub trait Held<P>: Tree<P> {
-    /// Reads the tree in a place.
+    /// Reads the tree in a place. It is handed on by one word, so that texts may nest deep on a small stack.
     fn parse_held(
         alloc: Global,
         of: PhantomData<Self>,
         input: &mut ParseStream<'_>,
         place: P,
-    ) -> Result<Self, Error>
+    ) -> Result<Boxed<Self>, Error>
         ensures reads { Reads (Self.read place input.old) result input.new }
         ensures within { Follows input.old input.new };
 }
@@ -44,31 +44,27 @@ impl<
     'a,
     P,
     T: Tree<P>,
-    F: Fn(Global, PhantomData<T>, &mut ParseStream<'_>, P) -> Result<T, Error>,
+    F: Fn(Global, PhantomData<T>, &mut ParseStream<'_>, P) -> Result<Boxed<T>, Error>,
 > Nested<'a, P, T, F> {
     /// A tree that the form holds.
-    #[tactic(auto, using(crate::proofs::nested_laws::Ahead::later), unfolding(crate::specs::nested::Below::held))]
+    #[tactic(auto, using(token_core::proofs::Suffixes::follows))]
     pub fn value(&self, input: &mut ParseStream<'_>, place: P) -> Result<T, Error>
         requires nests { Nests T.read (length self.now.begin) (F.pre self.now.read) (F.post self.now.read) }
         requires few { ahead input.old < length self.now.begin }
         ensures parses { Parses (below.held T.read (length self.now.begin) place) result input.old input.new }
         ensures fewer { ahead input.new ≤ ahead input.old }
     {
-        (self.read)(self.alloc, PhantomData, input, place)
+        Ok(self.boxed(input, place)?.into_inner())
     }
 
     /// The same on the heap, so that one word is at hand and dropped where what follows is refused.
-    #[tactic(auto, using(token_core::proofs::Suffixes::follows))]
+    #[tactic(auto, using(crate::proofs::nested_laws::Ahead::later), unfolding(crate::specs::nested::Below::held))]
     pub fn boxed(&self, input: &mut ParseStream<'_>, place: P) -> Result<Boxed<T>, Error>
         requires nests { Nests T.read (length self.now.begin) (F.pre self.now.read) (F.post self.now.read) }
         requires few { ahead input.old < length self.now.begin }
         ensures parses { Parses (below.held T.read (length self.now.begin) place) result input.old input.new }
         ensures fewer { ahead input.new ≤ ahead input.old }
     {
-        // a match, since `?` would hold the value several times while what it holds is read
-        match self.value(input, place) {
-            Ok(value) => Ok(Boxed::new(self.alloc, value)?),
-            Err(e) => Err(e),
-        }
+        (self.read)(self.alloc, PhantomData, input, place)
     }
 }

@@ -17,7 +17,7 @@ use std::alloc::Global;
 use std::marker::PhantomData;
 use syn_path::supplied::Value;
 use token_core::token::{Colon, Comma, Const, Eq, Gt, Lt, Plus};
-use token_core::{Cursor, Error, Ident, Lifetime, ParseStream, Punctuated};
+use token_core::{Boxed, Cursor, Error, Ident, Lifetime, ParseStream, Punctuated};
 
 /// A `:` that may be there: bounds follow it.
 #[tactic(auto, using(crate::proofs::nested_laws::Ahead::later))]
@@ -40,10 +40,10 @@ pub(crate) fn parse_held_lifetime(
     of: PhantomData<Lifetime>,
     input: &mut ParseStream<'_>,
     place: (),
-) -> Result<Lifetime, Error>
+) -> Result<Boxed<Lifetime>, Error>
     ensures parses { Parses read_lifetime result input.old input.new }
 {
-    parse_any_lifetime(alloc, input)
+    Ok(Boxed::new(alloc, parse_any_lifetime(alloc, input)?)?)
 }
 
 /// The lifetimes after a `:`, further on than the parameter began.
@@ -130,7 +130,7 @@ impl<
     'a,
     P: Copy,
     T: Tree<P>,
-    F: Fn(Global, PhantomData<T>, &mut ParseStream<'_>, P) -> Result<T, Error>,
+    F: Fn(Global, PhantomData<T>, &mut ParseStream<'_>, P) -> Result<Boxed<T>, Error>,
 > Nested<'a, P, T, F> {
     /// The bounds of a type parameter: they stand after a `:` alone.
     #[tactic(auto, using(token_core::proofs::Suffixes::follows, crate::proofs::nested_laws::Ahead::later))]
@@ -180,10 +180,10 @@ pub fn type_parts<
     'a,
     PB: Copy,
     B: Tree<PB>,
-    FB: Fn(Global, PhantomData<B>, &mut ParseStream<'_>, PB) -> Result<B, Error>,
+    FB: Fn(Global, PhantomData<B>, &mut ParseStream<'_>, PB) -> Result<Boxed<B>, Error>,
     PT: Copy,
     T: Tree<PT>,
-    FT: Fn(Global, PhantomData<T>, &mut ParseStream<'_>, PT) -> Result<T, Error>,
+    FT: Fn(Global, PhantomData<T>, &mut ParseStream<'_>, PT) -> Result<Boxed<T>, Error>,
 >(
     bounds: &Nested<'a, PB, B, FB>,
     types: &Nested<'a, PT, T, FT>,
@@ -234,7 +234,7 @@ pub fn const_parts<
     E: Value,
     P: Copy,
     T: Tree<P>,
-    F: Fn(Global, PhantomData<T>, &mut ParseStream<'_>, P) -> Result<T, Error>,
+    F: Fn(Global, PhantomData<T>, &mut ParseStream<'_>, P) -> Result<Boxed<T>, Error>,
 >(
     types: &Nested<'a, P, T, F>,
     input: &mut ParseStream<'_>,

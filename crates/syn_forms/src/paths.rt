@@ -109,7 +109,7 @@ fn parse_named_word(alloc: Global, input: &mut ParseStream<'_>) -> Result<Ident,
 impl<
     'a,
     G: Tree<()> + Arguments,
-    F: Fn(Global, PhantomData<G>, &mut ParseStream<'_>, ()) -> Result<G, Error>,
+    F: Fn(Global, PhantomData<G>, &mut ParseStream<'_>, ()) -> Result<Boxed<G>, Error>,
 > Nested<'a, (), G, F> {
     /// What follows the word of a segment that may have arguments.
     #[tactic(auto, using(token_core::proofs::Suffixes::follows))]
@@ -127,8 +127,11 @@ impl<
         ensures fewer { ahead input.new ≤ ahead input.old }
     {
         if peek_arguments(input, style) {
-            let arguments = self.value(input, ())?;
-            return Ok(PathSegmentOf { ident, arguments });
+            let arguments = self.boxed(input, ())?;
+            return Ok(PathSegmentOf {
+                ident,
+                arguments: arguments.into_inner(),
+            });
         }
         Ok(PathSegmentOf::from(ident))
     }
@@ -175,8 +178,11 @@ impl<
         ensures ended { IfOk result (λ all. length all.0 ≡ length all.1 + 1) }
     {
         'turn: loop {
-            let segment = self.segment(input, style)?;
-            segments.push_value(segment)?;
+            // a match, since `?` would hold the segment several times while what it holds is read
+            match self.segment(input, style) {
+                Ok(segment) => segments.push_value(segment)?,
+                Err(e) => return Err(e),
+            }
             if !further.goes_on(input) {
                 return Ok(segments);
             }
@@ -290,7 +296,7 @@ impl<
     pub fn qualified<
         P: Copy,
         T: Tree<P>,
-        H: Fn(Global, PhantomData<T>, &mut ParseStream<'_>, P) -> Result<T, Error>,
+        H: Fn(Global, PhantomData<T>, &mut ParseStream<'_>, P) -> Result<Boxed<T>, Error>,
     >(
         &self,
         types: &Nested<'_, P, T, H>,
@@ -375,7 +381,7 @@ impl<
     pub fn maybe_qualified<
         P: Copy,
         T: Tree<P>,
-        H: Fn(Global, PhantomData<T>, &mut ParseStream<'_>, P) -> Result<T, Error>,
+        H: Fn(Global, PhantomData<T>, &mut ParseStream<'_>, P) -> Result<Boxed<T>, Error>,
     >(
         &self,
         types: &Nested<'_, P, T, H>,

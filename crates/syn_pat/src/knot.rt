@@ -13,7 +13,7 @@ use std::marker::PhantomData;
 use syn_forms::nested::Tree;
 use syn_path::path::Arguments;
 use syn_path::supplied::Subtree;
-use token_core::{Error, ParseStream};
+use token_core::{Boxed, Error, ParseStream};
 
 impl<X: Subtree, G: Arguments, Q: Qualifier<G>, T: Drop> Tree<PatPlace> for PatOver<X, G, Q, T> {
     ghost read = { knot.pat X.reads (named Q.reads G.is_absent) };
@@ -27,7 +27,7 @@ pub fn parse_pat<X: Subtree, G: Arguments, Q: Qualifier<G>, T: Drop>(
     of: PhantomData<PatOver<X, G, Q, T>>,
     input: &mut ParseStream<'_>,
     place: PatPlace,
-) -> Result<PatOver<X, G, Q, T>, Error>
+) -> Result<Boxed<PatOver<X, G, Q, T>>, Error>
     ensures parses { Parses (knot.pat X.reads (named Q.reads G.is_absent) place) result input.old input.new }
 {
     Patterns {

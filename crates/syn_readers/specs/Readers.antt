@@ -1,8 +1,7 @@
--- The readers of types, paths and generics by their names, and what is said of any reader.
-use Rattle.std.specs.Prelude.{◌≡◌, ◌≢◌, Bool, true, if◌then◌else◌, List, Option, Some, None, Result, Ok, Err, codes}
-use Rattle.std.specs.Str.{bytes_eq}
+-- The readers of types, paths and generics, and what is said of any reader.
+use Rattle.std.specs.Prelude.{◌≡◌, ◌≢◌, Bool, true, List, Option, Some, None, Result, Ok, Err}
 use Rattle.token_core.specs.declared.error.ErrorKind.TheVariants.{OutOfMemory}
-use Rattle.token_core.specs.Toks.{Bytes, Toks}
+use Rattle.token_core.specs.Toks.{Toks}
 use Rattle.token_core.specs.Trees.{TokenStream, trees}
 use Rattle.token_core.specs.Rebuilt.{Visible}
 use Rattle.token_core.specs.Refusal.{Refusal}
@@ -37,64 +36,6 @@ use Rattle.syn_readers.specs.declared.by_name.PathReader.{PathReader}
 use Rattle.syn_readers.specs.declared.by_name.PathReader.TheVariants as p
 use Rattle.syn_readers.specs.declared.by_name.GenericsReader.{GenericsReader}
 use Rattle.syn_readers.specs.declared.by_name.GenericsReader.TheVariants as g
-
-abbrev pub types_named : Bytes → Option TypeReader
-types_named name =
-    if bytes_eq name (codes "Type") then Some t.Any
-    else (if bytes_eq name (codes "Type::without_plus") then Some t.WithoutPlus
-    else (if bytes_eq name (codes "TypeArray") then Some t.Array
-    else (if bytes_eq name (codes "TypeFnPtr") then Some t.FnPtr
-    else (if bytes_eq name (codes "TypeGroup") then Some t.Group
-    else (if bytes_eq name (codes "TypeImplTrait") then Some t.ImplTrait
-    else (if bytes_eq name (codes "TypeImplTrait::without_plus") then Some t.ImplWithoutPlus
-    else (if bytes_eq name (codes "TypeInfer") then Some t.Infer
-    else (if bytes_eq name (codes "TypeMacro") then Some t.Macro
-    else (if bytes_eq name (codes "TypeNever") then Some t.Never
-    else (if bytes_eq name (codes "TypeParen") then Some t.Paren
-    else (if bytes_eq name (codes "TypePath") then Some t.Path
-    else (if bytes_eq name (codes "TypePtr") then Some t.Ptr
-    else (if bytes_eq name (codes "TypeReference") then Some t.Reference
-    else (if bytes_eq name (codes "TypeSlice") then Some t.Slice
-    else (if bytes_eq name (codes "TypeTraitObject") then Some t.TraitObject
-    else (if bytes_eq name (codes "TypeTraitObject::without_plus") then Some t.ObjectWithoutPlus
-    else (if bytes_eq name (codes "TypeTuple") then Some t.Tuple
-    else (if bytes_eq name (codes "ReturnType") then Some t.Return
-    else (if bytes_eq name (codes "ReturnType::without_plus") then Some t.ReturnWithoutPlus
-    else (if bytes_eq name (codes "NamedArg") then Some t.NamedArg
-    else (if bytes_eq name (codes "Abi") then Some t.Abi
-    else (if bytes_eq name (codes "Abi::parse_optional") then Some t.OptionalAbi
-    else None))))))))))))))))))))))
-
-abbrev pub paths_named : Bytes → Option PathReader
-paths_named name =
-    if bytes_eq name (codes "Path") then Some p.Whole
-    else (if bytes_eq name (codes "PathSegment") then Some p.Segment
-    else (if bytes_eq name (codes "GenericArgument") then Some p.Argument
-    else (if bytes_eq name (codes "AngleBracketedGenericArguments") then Some p.AngleBracketed
-    else (if bytes_eq name (codes "AngleBracketedGenericArguments::parse_turbofish") then Some p.ParseTurbofish
-    else (if bytes_eq name (codes "ParenthesizedGenericArguments") then Some p.Parenthesized
-    else None)))))
-
-abbrev pub generics_named : Bytes → Option GenericsReader
-generics_named name =
-    if bytes_eq name (codes "GenericParam") then Some g.Param
-    else (if bytes_eq name (codes "LifetimeParam") then Some g.LifetimeParam
-    else (if bytes_eq name (codes "TypeParam") then Some g.TypeParam
-    else (if bytes_eq name (codes "ConstParam") then Some g.ConstParam
-    else (if bytes_eq name (codes "BoundLifetimes") then Some g.BoundLifetimes
-    else (if bytes_eq name (codes "BoundLifetimes::parse_optional") then Some g.OptionalBoundLifetimes
-    else (if bytes_eq name (codes "TypeParamBound") then Some g.Bound
-    else (if bytes_eq name (codes "TraitBound") then Some g.TraitBound
-    else (if bytes_eq name (codes "PreciseCapture") then Some g.Capture
-    else (if bytes_eq name (codes "CapturedParam") then Some g.Captured
-    else (if bytes_eq name (codes "Generics") then Some g.Declared
-    else (if bytes_eq name (codes "ImplGenerics") then Some g.ImplGenerics
-    else (if bytes_eq name (codes "TypeGenerics") then Some g.TypeGenerics
-    else (if bytes_eq name (codes "Turbofish") then Some g.Turbofish
-    else (if bytes_eq name (codes "WhereClause") then Some g.WhereClause
-    else (if bytes_eq name (codes "WhereClause::parse_optional") then Some g.OptionalWhereClause
-    else (if bytes_eq name (codes "WherePredicate") then Some g.Predicate
-    else None))))))))))))))))
 
 -- What a run says of a reader: what it reads, what its trees print, and what a whole read promises. It tells which tree a list spells clearly: by the promise
 -- that tree is the answer, and there is none where the list is refused.

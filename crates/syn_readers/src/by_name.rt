@@ -1,4 +1,4 @@
-//! The readers of types, paths and generics by their names: each reads all of a list, and prints what it read.
+//! The readers of types, paths and generics: each reads all of a list, and prints what it read.
 
 ghost use Rattle.std.specs.Prelude.{◌≡◌, IfOk};
 ghost use Rattle.syn_generics.specs.generics.Alone as alone;
@@ -95,38 +95,6 @@ pub enum GenericsReader {
 }
 
 impl TypeReader {
-    /// The reader of types of this name; `None` where there is none.
-    pub fn named(name: &str) -> Option<TypeReader>
-        ensures { result ≡ spec.types_named name.now }
-    {
-        match name {
-            "Type" => Some(TypeReader::Any),
-            "Type::without_plus" => Some(TypeReader::WithoutPlus),
-            "TypeArray" => Some(TypeReader::Array),
-            "TypeFnPtr" => Some(TypeReader::FnPtr),
-            "TypeGroup" => Some(TypeReader::Group),
-            "TypeImplTrait" => Some(TypeReader::ImplTrait),
-            "TypeImplTrait::without_plus" => Some(TypeReader::ImplWithoutPlus),
-            "TypeInfer" => Some(TypeReader::Infer),
-            "TypeMacro" => Some(TypeReader::Macro),
-            "TypeNever" => Some(TypeReader::Never),
-            "TypeParen" => Some(TypeReader::Paren),
-            "TypePath" => Some(TypeReader::Path),
-            "TypePtr" => Some(TypeReader::Ptr),
-            "TypeReference" => Some(TypeReader::Reference),
-            "TypeSlice" => Some(TypeReader::Slice),
-            "TypeTraitObject" => Some(TypeReader::TraitObject),
-            "TypeTraitObject::without_plus" => Some(TypeReader::ObjectWithoutPlus),
-            "TypeTuple" => Some(TypeReader::Tuple),
-            "ReturnType" => Some(TypeReader::Return),
-            "ReturnType::without_plus" => Some(TypeReader::ReturnWithoutPlus),
-            "NamedArg" => Some(TypeReader::NamedArg),
-            "Abi" => Some(TypeReader::Abi),
-            "Abi::parse_optional" => Some(TypeReader::OptionalAbi),
-            _ => None,
-        }
-    }
-
     /// Reads all of a list in a scope, and answers the print of what was read: over any attributes and expressions.
     pub fn reprint_over<A: Attributes, E: Value>(
         self,
@@ -193,21 +161,6 @@ impl TypeReader {
 }
 
 impl PathReader {
-    /// The reader of paths or of their arguments of this name; `None` where there is none.
-    pub fn named(name: &str) -> Option<PathReader>
-        ensures { result ≡ spec.paths_named name.now }
-    {
-        match name {
-            "Path" => Some(PathReader::Whole),
-            "PathSegment" => Some(PathReader::Segment),
-            "GenericArgument" => Some(PathReader::Argument),
-            "AngleBracketedGenericArguments" => Some(PathReader::AngleBracketed),
-            "AngleBracketedGenericArguments::parse_turbofish" => Some(PathReader::ParseTurbofish),
-            "ParenthesizedGenericArguments" => Some(PathReader::Parenthesized),
-            _ => None,
-        }
-    }
-
     /// Reads all of a list in a scope, and answers the print of what was read: over any attributes and expressions.
     pub fn reprint_over<A: Attributes, E: Value>(
         self,
@@ -242,32 +195,6 @@ impl PathReader {
 }
 
 impl GenericsReader {
-    /// The reader of generics of this name; `None` where there is none.
-    pub fn named(name: &str) -> Option<GenericsReader>
-        ensures { result ≡ spec.generics_named name.now }
-    {
-        match name {
-            "GenericParam" => Some(GenericsReader::Param),
-            "LifetimeParam" => Some(GenericsReader::LifetimeParam),
-            "TypeParam" => Some(GenericsReader::TypeParam),
-            "ConstParam" => Some(GenericsReader::ConstParam),
-            "BoundLifetimes" => Some(GenericsReader::BoundLifetimes),
-            "BoundLifetimes::parse_optional" => Some(GenericsReader::OptionalBoundLifetimes),
-            "TypeParamBound" => Some(GenericsReader::Bound),
-            "TraitBound" => Some(GenericsReader::TraitBound),
-            "PreciseCapture" => Some(GenericsReader::Capture),
-            "CapturedParam" => Some(GenericsReader::Captured),
-            "Generics" => Some(GenericsReader::Declared),
-            "ImplGenerics" => Some(GenericsReader::ImplGenerics),
-            "TypeGenerics" => Some(GenericsReader::TypeGenerics),
-            "Turbofish" => Some(GenericsReader::Turbofish),
-            "WhereClause" => Some(GenericsReader::WhereClause),
-            "WhereClause::parse_optional" => Some(GenericsReader::OptionalWhereClause),
-            "WherePredicate" => Some(GenericsReader::Predicate),
-            _ => None,
-        }
-    }
-
     /// Reads all of a list in a scope, and answers the print of what was read: over any attributes and expressions.
     pub fn reprint_over<A: Attributes, E: Value>(
         self,

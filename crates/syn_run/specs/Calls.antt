@@ -9,7 +9,7 @@ use Rattle.token_text.specs.Wholes.{text_end}
 use Rattle.syn_readers.specs.Readers.{Category}
 use Rattle.syn_run.specs.declared.call.Call.{Call}
 use Rattle.syn_run.specs.declared.readers.Reader.{Reader}
-use Rattle.syn_run.specs.Readers.{named}
+use Rattle.syn_run.specs.Table.{named}
 use Rattle.syn_run.specs.Run.{Replies}
 
 -- the number of a kind

@@ -1,10 +1,9 @@
--- The readers of items by their names.
-use Rattle.std.specs.Prelude.{Bool, if◌then◌else◌, List, Option, Some, None, codes}
-use Rattle.std.specs.Str.{bytes_eq}
+-- The readers of items.
+use Rattle.std.specs.Prelude.{Bool, List, codes}
 use Rattle.token_core.specs.Prints.{Print}
 use Rattle.token_core.specs.Reads.{Reader as R}
 use Rattle.token_core.specs.Spans.{none}
-use Rattle.token_core.specs.Toks.{Bytes, Toks}
+use Rattle.token_core.specs.Toks.{Toks}
 use Rattle.token_core.specs.Trees.{ident}
 use Rattle.syn_path.specs.Values.{NormalValues, ReadValues, SpelledValues, Values}
 use Rattle.syn_ty.specs.path.Paths.{lone, no_arguments, segment_of}
@@ -15,12 +14,6 @@ use Rattle.item_small.specs.part.Fronts.{Item}
 use Rattle.item_small.specs.part.Heads.{impl_head}
 use Rattle.syn_run.specs.declared.items.ItemReader.{ItemReader}
 use Rattle.syn_run.specs.declared.items.ItemReader.TheVariants as i
-
-abbrev pub items_named : Bytes → Option ItemReader
-items_named name =
-    if bytes_eq name (codes "StructItem") then Some i.Struct
-    else (if bytes_eq name (codes "ImplHead") then Some i.Head
-    else None)
 
 -- the path `Marker`, which stands nowhere
 abbrev pub marker : {A E : Type 0} → Path A E

@@ -4,4 +4,5 @@ pub mod Faults
 pub mod Items
 pub mod Readers
 pub mod Run
+pub mod Table
 pub mod Within

@@ -1,12 +1,10 @@
--- The readers that a run knows by name.
-use Rattle.std.specs.Prelude.{◌≡◌, Bool, if◌then◌else◌, List, [], Option, Some, None, Ok, option_map, codes}
-use Rattle.std.specs.Str.{bytes_eq}
-use Rattle.token_core.specs.Toks.{Bytes, Toks}
+-- What each reader that a run knows reads, prints and promises.
+use Rattle.std.specs.Prelude.{◌≡◌, Bool, List, [], Ok}
+use Rattle.token_core.specs.Toks.{Toks}
 use Rattle.token_core.specs.Trees.{TokenStream, trees}
 use Rattle.token_core.specs.Prints.{Print}
 use Rattle.token_core.specs.Reads.{Reader as R}
 use Rattle.token_core.specs.Stream.{Stream}
-use Rattle.syn_pat.specs.declared.place.PatPlace.TheVariants.{LeadingVert, Multi, Single}
 use Rattle.syn_pat.specs.pat.Pats as pats
 use Rattle.syn_pat.specs.pat.Promises as pat_promises
 use Rattle.syn_path.specs.declared.mac.Macro as mac
@@ -33,56 +31,12 @@ use Rattle.syn_run.specs.declared.readers.Reader.{Reader}
 use Rattle.syn_run.specs.declared.readers.Reader.TheVariants.{Macro, ModStyle, Meta, MetaList, MetaNameValue, Outer, Inner, PointerMutability, Types, Paths, Generics, Items, Patterns}
 use Rattle.syn_run.specs.declared.readers.PatternReader.{PatternReader}
 use Rattle.syn_run.specs.declared.readers.PatternReader.TheVariants as q
-use Rattle.syn_readers.specs.Readers.{Category, of_grammar, TypesTree, PathsTree, GenericsTree, types_named, paths_named, generics_named, types_category, paths_category, generics_category}
+use Rattle.syn_readers.specs.Readers.{Category, of_grammar, TypesTree, PathsTree, GenericsTree, types_category, paths_category, generics_category}
 use Rattle.syn_readers.specs.declared.by_name.TypeReader.{TypeReader}
 use Rattle.syn_readers.specs.declared.by_name.PathReader.{PathReader}
 use Rattle.syn_readers.specs.declared.by_name.GenericsReader.{GenericsReader}
-use Rattle.syn_run.specs.Items.{ItemsTree, items_category, items_named}
+use Rattle.syn_run.specs.Items.{ItemsTree, items_category}
 use Rattle.syn_run.specs.declared.items.ItemReader.{ItemReader}
-
-abbrev pub patterns_named : Bytes → Option PatternReader
-patterns_named name =
-    if bytes_eq name (codes "Pat::parse_single") then Some (q.In Single)
-    else (if bytes_eq name (codes "Pat::parse_multi") then Some (q.In Multi)
-    else (if bytes_eq name (codes "Pat::parse_multi_with_leading_vert") then Some (q.In LeadingVert)
-    else (if bytes_eq name (codes "Pat::parse_multi_with_leading_vert_and_guard") then Some q.Guarded
-    else (if bytes_eq name (codes "PatType") then Some q.Typed
-    else None))))
-
--- of the readers of types, paths, generics, items and patterns, the one of this name
-abbrev pub patterns_reader : Option PatternReader → Option Reader
-patterns_reader = option_map Patterns
-
-abbrev pub or_patterns : Bytes → Option ItemReader → Option Reader
-or_patterns name (Some r) = Some (Items r)
-or_patterns name None = patterns_reader (patterns_named name)
-
-abbrev pub or_items : Bytes → Option GenericsReader → Option Reader
-or_items name (Some r) = Some (Generics r)
-or_items name None = or_patterns name (items_named name)
-
-abbrev pub or_generics : Bytes → Option PathReader → Option Reader
-or_generics name (Some r) = Some (Paths r)
-or_generics name None = or_items name (generics_named name)
-
-abbrev pub or_paths : Bytes → Option TypeReader → Option Reader
-or_paths name (Some r) = Some (Types r)
-or_paths name None = or_generics name (paths_named name)
-
-abbrev pub of_types : Bytes → Option Reader
-of_types name = or_paths name (types_named name)
-
-abbrev pub named : Bytes → Option Reader
-named name =
-    if bytes_eq name (codes "Macro") then Some Macro
-    else (if bytes_eq name (codes "Path::parse_mod_style") then Some ModStyle
-    else (if bytes_eq name (codes "Meta") then Some Meta
-    else (if bytes_eq name (codes "MetaList") then Some MetaList
-    else (if bytes_eq name (codes "MetaNameValue") then Some MetaNameValue
-    else (if bytes_eq name (codes "Attribute::parse_outer") then Some Outer
-    else (if bytes_eq name (codes "Attribute::parse_inner") then Some Inner
-    else (if bytes_eq name (codes "PointerMutability") then Some PointerMutability
-    else of_types name)))))))
 
 -- the trees of a reader of patterns, over a supplied subtree
 abbrev pub PatternsTree : Type 0 → PatternReader → Type 0

@@ -12,7 +12,7 @@ use Rattle.token_text.specs.Spelling.{Spells, Refused}
 use Rattle.token_text.specs.Printing.{text_of}
 use Rattle.syn_run.specs.declared.readers.Reader.{Reader}
 use Rattle.syn_readers.specs.Readers.{Category, whole_in}
-use Rattle.syn_run.specs.Readers.{named}
+use Rattle.syn_run.specs.Table.{named}
 
 -- ---- what a run says
 

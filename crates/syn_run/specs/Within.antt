@@ -3,7 +3,7 @@ use Rattle.std.specs.Prelude.{◌≡◌, ◌↔◌, ◌+◌, ◌≤◌, ℕ, Som
 use Rattle.token_core.specs.Toks.{Bytes}
 use Rattle.syn_readers.specs.Readers.{Category}
 use Rattle.syn_run.specs.declared.readers.Reader.{Reader}
-use Rattle.syn_run.specs.Readers.{named}
+use Rattle.syn_run.specs.Table.{named}
 use Rattle.syn_run.specs.Run.{Answer, Answers, shown, refused, unknown, line}
 
 abbrev pub IsShown : Answer → Type 0

@@ -2,7 +2,8 @@
 
 ghost use Rattle.std.specs.Prelude.{◌≡◌, ◌<◌};
 ghost use Rattle.syn_run.specs.Calls as spec;
-ghost use Rattle.syn_run.specs.Readers.{category, named};
+ghost use Rattle.syn_run.specs.Readers.{category};
+ghost use Rattle.syn_run.specs.Table.{named};
 ghost use Rattle.syn_run.specs.declared.call.Call.{Call};
 
 use crate::readers::Reader;

@@ -24,17 +24,6 @@ pub enum ItemReader {
 }
 
 impl ItemReader {
-    /// The reader of items of this name; `None` where there is none.
-    pub fn named(name: &str) -> Option<ItemReader>
-        ensures { result ≡ spec.items_named name.now }
-    {
-        match name {
-            "StructItem" => Some(ItemReader::Struct),
-            "ImplHead" => Some(ItemReader::Head),
-            _ => None,
-        }
-    }
-
     /// Reads all of a list in a scope, and answers the print of what was read: over any attributes and expressions.
     pub fn reprint_over<A: Attributes, E: Value>(
         self,

@@ -8,4 +8,5 @@ pub mod fault;
 pub mod items;
 pub mod readers;
 pub mod run;
+pub mod table;
 pub mod within;

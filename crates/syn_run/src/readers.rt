@@ -63,44 +63,6 @@ pub enum PatternReader {
 }
 
 impl Reader {
-    pub fn named(name: &str) -> Option<Reader>
-        ensures { result ≡ spec.named name.now }
-    {
-        match name {
-            "Macro" => Some(Reader::Macro),
-            "Path::parse_mod_style" => Some(Reader::ModStyle),
-            "Meta" => Some(Reader::Meta),
-            "MetaList" => Some(Reader::MetaList),
-            "MetaNameValue" => Some(Reader::MetaNameValue),
-            "Attribute::parse_outer" => Some(Reader::Outer),
-            "Attribute::parse_inner" => Some(Reader::Inner),
-            "PointerMutability" => Some(Reader::PointerMutability),
-            _ => Reader::of_types(name),
-        }
-    }
-
-    /// Of the readers of types, paths, generics, items and patterns, the one of this name.
-    fn of_types(name: &str) -> Option<Reader>
-        ensures { result ≡ spec.of_types name.now }
-    {
-        if let Some(reader) = TypeReader::named(name) {
-            return Some(Reader::Types(reader));
-        }
-        if let Some(reader) = PathReader::named(name) {
-            return Some(Reader::Paths(reader));
-        }
-        if let Some(reader) = GenericsReader::named(name) {
-            return Some(Reader::Generics(reader));
-        }
-        if let Some(reader) = ItemReader::named(name) {
-            return Some(Reader::Items(reader));
-        }
-        match PatternReader::named(name) {
-            Some(reader) => Some(Reader::Patterns(reader)),
-            None => None,
-        }
-    }
-
     /// Reads all of a list in a scope, and prints what was read: over any supplied subtree.
     pub fn reprint<X: Subtree>(
         self,
@@ -147,20 +109,7 @@ impl Reader {
 }
 
 impl PatternReader {
-    fn named(name: &str) -> Option<PatternReader>
-        ensures { result ≡ spec.patterns_named name.now }
-    {
-        match name {
-            "Pat::parse_single" => Some(PatternReader::In(PatPlace::Single)),
-            "Pat::parse_multi" => Some(PatternReader::In(PatPlace::Multi)),
-            "Pat::parse_multi_with_leading_vert" => Some(PatternReader::In(PatPlace::LeadingVert)),
-            "Pat::parse_multi_with_leading_vert_and_guard" => Some(PatternReader::Guarded),
-            "PatType" => Some(PatternReader::Typed),
-            _ => None,
-        }
-    }
-
-    /// The same of patterns.
+    /// Reads all of a list in a scope, and prints what was read: over any supplied subtree.
     fn reprint_over<X: Subtree>(
         self,
         alloc: Global,
@@ -256,7 +205,7 @@ fn show_pat<X: Subtree, G: Arguments, Q: Qualifier<G>, T: ToTokens + Drop>(
         result input.new }
     ensures within { Follows input.old input.new }
 {
-    let pat = Boxed::new(alloc, parse_pat::<X, G, Q, T>(alloc, of, input, place)?)?;
+    let pat = parse_pat::<X, G, Q, T>(alloc, of, input, place)?;
     Ok(print_of_pat(alloc, pat.get())?)
 }
 

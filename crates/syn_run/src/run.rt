@@ -5,7 +5,8 @@ ghost use Rattle.std.specs.Io.KnownBytes.{Appends};
 ghost use Rattle.token_core.specs.Spans.{none};
 ghost use Rattle.token_text.specs.Wholes.{text_end};
 ghost use Rattle.syn_run.specs.Run as spec;
-ghost use Rattle.syn_run.specs.Readers.{category, named};
+ghost use Rattle.syn_run.specs.Readers.{category};
+ghost use Rattle.syn_run.specs.Table.{named};
 ghost use Rattle.syn_run.specs.Faults as faults;
 
 use crate::channel::{Sink, Source};

@@ -16,7 +16,7 @@ use std::marker::PhantomData;
 use syn_forms::nested::{Held, Nested};
 use syn_forms::places::{BoundPlace, ParamPlace, TypePlace};
 use syn_path::supplied::{Attributes, Value};
-use token_core::{Cursor, Error, ParseStream};
+use token_core::{Boxed, Cursor, Error, ParseStream};
 
 /// One turn of the readers.
 #[derive(Drop)]
@@ -121,7 +121,7 @@ pub fn read_type<A: Attributes, E: Value>(
     of: PhantomData<TypeOf<A, E>>,
     input: &mut ParseStream<'_>,
     place: TypePlace,
-) -> Result<TypeOf<A, E>, Error>
+) -> Result<Boxed<TypeOf<A, E>>, Error>
     ensures parses { Parses (knot.ty A.reads E.reads place) result input.old input.new }
 {
     <TypeOf<A, E> as Held<TypePlace>>::parse_held(alloc, of, input, place)
@@ -133,7 +133,7 @@ pub fn read_bound<A: Attributes, E: Value>(
     of: PhantomData<TypeParamBoundOf<A, E>>,
     input: &mut ParseStream<'_>,
     place: BoundPlace,
-) -> Result<TypeParamBoundOf<A, E>, Error>
+) -> Result<Boxed<TypeParamBoundOf<A, E>>, Error>
     ensures parses { Parses (knot.bound A.reads E.reads place) result input.old input.new }
 {
     <TypeParamBoundOf<A, E> as Held<BoundPlace>>::parse_held(alloc, of, input, place)

@@ -12,7 +12,7 @@ use std::marker::PhantomData;
 use syn_forms::nested::{Held, Tree};
 use syn_forms::places::{BoundPlace, ParamPlace, TypePlace};
 use syn_path::supplied::{Attributes, Value};
-use token_core::{Error, ParseStream};
+use token_core::{Boxed, Error, ParseStream};
 
 impl<A: Attributes, E: Value> Tree<TypePlace> for TypeOf<A, E> {
     ghost read = { knot.ty A.reads E.reads };
@@ -42,7 +42,7 @@ pub fn parse_type<A: Attributes, E: Value>(
     of: PhantomData<TypeOf<A, E>>,
     input: &mut ParseStream<'_>,
     place: TypePlace,
-) -> Result<TypeOf<A, E>, Error>
+) -> Result<Boxed<TypeOf<A, E>>, Error>
     ensures parses { Parses (knot.ty A.reads E.reads place) result input.old input.new }
 {
     Grammar {
@@ -66,7 +66,7 @@ pub fn parse_bound<A: Attributes, E: Value>(
     of: PhantomData<TypeParamBoundOf<A, E>>,
     input: &mut ParseStream<'_>,
     place: BoundPlace,
-) -> Result<TypeParamBoundOf<A, E>, Error>
+) -> Result<Boxed<TypeParamBoundOf<A, E>>, Error>
     ensures parses { Parses (knot.bound A.reads E.reads place) result input.old input.new }
 {
     Grammar {
@@ -90,7 +90,7 @@ pub fn parse_param<A: Attributes, E: Value>(
     of: PhantomData<GenericParamOf<A, E>>,
     input: &mut ParseStream<'_>,
     place: ParamPlace,
-) -> Result<GenericParamOf<A, E>, Error>
+) -> Result<Boxed<GenericParamOf<A, E>>, Error>
     ensures parses { Parses (knot.param A.reads E.reads place) result input.old input.new }
 {
     Grammar {
@@ -114,7 +114,7 @@ pub fn parse_argument<A: Attributes, E: Value>(
     of: PhantomData<GenericArgumentOf<A, E>>,
     input: &mut ParseStream<'_>,
     place: (),
-) -> Result<GenericArgumentOf<A, E>, Error>
+) -> Result<Boxed<GenericArgumentOf<A, E>>, Error>
     ensures parses { Parses (knot.argument A.reads E.reads) result input.old input.new }
 {
     Grammar {
@@ -138,7 +138,7 @@ pub fn parse_arguments<A: Attributes, E: Value>(
     of: PhantomData<PathArgumentsOf<A, E>>,
     input: &mut ParseStream<'_>,
     place: (),
-) -> Result<PathArgumentsOf<A, E>, Error>
+) -> Result<Boxed<PathArgumentsOf<A, E>>, Error>
     ensures parses { Parses (knot.arguments A.reads E.reads) result input.old input.new }
 {
     Grammar {
@@ -162,7 +162,7 @@ impl<A: Attributes, E: Value> Held<TypePlace> for TypeOf<A, E> {
         of: PhantomData<TypeOf<A, E>>,
         input: &mut ParseStream<'_>,
         place: TypePlace,
-    ) -> Result<TypeOf<A, E>, Error>
+    ) -> Result<Boxed<TypeOf<A, E>>, Error>
         ensures reads { Reads (knot.ty A.reads E.reads place input.old) result input.new }
         ensures within { Follows input.old input.new }
     {
@@ -176,7 +176,7 @@ impl<A: Attributes, E: Value> Held<BoundPlace> for TypeParamBoundOf<A, E> {
         of: PhantomData<TypeParamBoundOf<A, E>>,
         input: &mut ParseStream<'_>,
         place: BoundPlace,
-    ) -> Result<TypeParamBoundOf<A, E>, Error>
+    ) -> Result<Boxed<TypeParamBoundOf<A, E>>, Error>
         ensures reads { Reads (knot.bound A.reads E.reads place input.old) result input.new }
         ensures within { Follows input.old input.new }
     {
@@ -190,7 +190,7 @@ impl<A: Attributes, E: Value> Held<ParamPlace> for GenericParamOf<A, E> {
         of: PhantomData<GenericParamOf<A, E>>,
         input: &mut ParseStream<'_>,
         place: ParamPlace,
-    ) -> Result<GenericParamOf<A, E>, Error>
+    ) -> Result<Boxed<GenericParamOf<A, E>>, Error>
         ensures reads { Reads (knot.param A.reads E.reads place input.old) result input.new }
         ensures within { Follows input.old input.new }
     {
@@ -204,7 +204,7 @@ impl<A: Attributes, E: Value> Held<()> for GenericArgumentOf<A, E> {
         of: PhantomData<GenericArgumentOf<A, E>>,
         input: &mut ParseStream<'_>,
         place: (),
-    ) -> Result<GenericArgumentOf<A, E>, Error>
+    ) -> Result<Boxed<GenericArgumentOf<A, E>>, Error>
         ensures reads { Reads (knot.argument A.reads E.reads input.old) result input.new }
         ensures within { Follows input.old input.new }
     {
@@ -218,7 +218,7 @@ impl<A: Attributes, E: Value> Held<()> for PathArgumentsOf<A, E> {
         of: PhantomData<PathArgumentsOf<A, E>>,
         input: &mut ParseStream<'_>,
         place: (),
-    ) -> Result<PathArgumentsOf<A, E>, Error>
+    ) -> Result<Boxed<PathArgumentsOf<A, E>>, Error>
         ensures reads { Reads (knot.arguments A.reads E.reads input.old) result input.new }
         ensures within { Follows input.old input.new }
     {

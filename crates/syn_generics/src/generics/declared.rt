@@ -31,7 +31,7 @@ use syn_ty::generics::{GenericParamOf, TypeParamBoundOf};
 use syn_ty::grammar::read_type;
 use token_core::token::{Colon, Comma, Const, Eq, Gt, Lt, PathSep, Plus, Pound, Where};
 use token_core::{
-    Cursor, Error, ErrorKind, Ident, Items, Lifetime, Parse, ParseStream, Punctuated,
+    Boxed, Cursor, Error, ErrorKind, Ident, Items, Lifetime, Parse, ParseStream, Punctuated,
 };
 
 // ---- questions about the tokens
@@ -168,7 +168,7 @@ fn type_after<A: Attributes, E: Value>(
     Ok(PredicateTypeOf {
         attrs,
         lifetimes,
-        bounded_ty,
+        bounded_ty: bounded_ty.into_inner(),
         colon_token,
         bounds,
     })
@@ -229,11 +229,11 @@ impl<A: Attributes, E: Value> Held<()> for WherePredicateOf<A, E> {
         of: PhantomData<WherePredicateOf<A, E>>,
         input: &mut ParseStream<'_>,
         place: (),
-    ) -> Result<WherePredicateOf<A, E>, Error>
+    ) -> Result<Boxed<WherePredicateOf<A, E>>, Error>
         ensures reads { Reads (alone.predicate A.reads E.reads input.old) result input.new }
         ensures within { Follows input.old input.new }
     {
-        parse_predicate(alloc, input)
+        Ok(Boxed::new(alloc, parse_predicate(alloc, input)?)?)
     }
 }
 

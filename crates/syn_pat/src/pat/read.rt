@@ -49,12 +49,7 @@ impl<X: Subtree> Pat<X> {
         ensures promise { Heads (promises.pat X.reads X.spells X.normal X.prints Single) input.old result input.new }
         ensures front { Takes (fronts.pat X.spells Single) input.old result input.new }
     {
-        parse_pat::<X, PathArguments<X>, QSelf<X>, Type<X>>(
-            alloc,
-            PhantomData,
-            input,
-            PatPlace::Single,
-        )
+        parse_in::<X, PathArguments<X>, QSelf<X>, Type<X>>(alloc, input, PatPlace::Single)
     }
 
     /// Reads patterns joined by `|`: one that no `|` follows is itself.
@@ -69,12 +64,7 @@ impl<X: Subtree> Pat<X> {
         ensures promise { Heads (promises.pat X.reads X.spells X.normal X.prints Multi) input.old result input.new }
         ensures front { Takes (fronts.pat X.spells Multi) input.old result input.new }
     {
-        parse_pat::<X, PathArguments<X>, QSelf<X>, Type<X>>(
-            alloc,
-            PhantomData,
-            input,
-            PatPlace::Multi,
-        )
+        parse_in::<X, PathArguments<X>, QSelf<X>, Type<X>>(alloc, input, PatPlace::Multi)
     }
 
     /// Reads patterns joined by `|`, and a `|` before the first, which makes alternatives of one pattern too.
@@ -93,12 +83,7 @@ impl<X: Subtree> Pat<X> {
             input.old result input.new }
         ensures front { Takes (fronts.pat X.spells LeadingVert) input.old result input.new }
     {
-        parse_pat::<X, PathArguments<X>, QSelf<X>, Type<X>>(
-            alloc,
-            PhantomData,
-            input,
-            PatPlace::LeadingVert,
-        )
+        parse_in::<X, PathArguments<X>, QSelf<X>, Type<X>>(alloc, input, PatPlace::LeadingVert)
     }
 
     /// The same, and a guard, which the supplied subtree reads.
@@ -119,6 +104,17 @@ impl<X: Subtree> Pat<X> {
     }
 }
 
+/// A pattern in its place.
+fn parse_in<X: Subtree, G: Arguments, Q: Qualifier<G>, T: Drop>(
+    alloc: Global,
+    input: &mut ParseStream<'_>,
+    place: PatPlace,
+) -> Result<PatOver<X, G, Q, T>, Error>
+    ensures parses { Parses (knot.pat X.reads (named Q.reads G.is_absent) place) result input.old input.new }
+{
+    Ok(parse_pat::<X, G, Q, T>(alloc, PhantomData, input, place)?.into_inner())
+}
+
 /// A pattern, and a guard that may follow.
 #[tactic(auto, using(token_core::proofs::Suffixes::follows), unfolding(crate::specs::pat::Knot::guarded))]
 pub fn parse_guarded<X: Subtree, G: Arguments, Q: Qualifier<G>, T: Drop>(
@@ -129,9 +125,8 @@ pub fn parse_guarded<X: Subtree, G: Arguments, Q: Qualifier<G>, T: Drop>(
 {
     let pat = parse_pat::<X, G, Q, T>(alloc, PhantomData, input, PatPlace::LeadingVert)?;
     if !input.peek::<If>() {
-        return Ok(pat);
+        return Ok(pat.into_inner());
     }
-    let pat = Boxed::new(alloc, pat)?;
     let if_token = input.parse::<If>(alloc)?;
     let guard = X::read(alloc, Place::Guard, input)?;
     Ok(PatOf::Guard(PatGuardOf {
@@ -152,14 +147,13 @@ pub fn parse_typed<X: Subtree, G: Arguments, Q: Qualifier<G>, T: Held<TypePlace>
         result input.old input.new }
 {
     let pat = parse_pat::<X, G, Q, T>(alloc, PhantomData, input, PatPlace::Single)?;
-    let pat = Boxed::new(alloc, pat)?;
     let colon_token = input.parse::<Colon>(alloc)?;
     let ty = T::parse_held(alloc, PhantomData, input, TypePlace::Plus)?;
     Ok(PatTypeOf {
         attrs: Items::new(alloc),
         pat,
         colon_token,
-        ty: Boxed::new(alloc, ty)?,
+        ty,
     })
 }
 

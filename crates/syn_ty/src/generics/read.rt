@@ -18,7 +18,7 @@ ghost use Rattle.syn_ty.specs.generics.Reading as reading;
 ghost use Rattle.syn_ty.specs.ty.Knot as knot;
 ghost use Rattle.token_core.specs.Headline.{Heads, Headline};
 ghost use Rattle.token_core.specs.Looks.{unmet};
-ghost use Rattle.token_core.specs.Reads.{Fails, Follows, Gives, Parses, Reads, forked};
+ghost use Rattle.token_core.specs.Reads.{Fails, Follows, Gives, Parses, Reads, forked, pure};
 ghost use Rattle.token_core.specs.Refusal.{Made};
 ghost use Rattle.token_core.specs.Stream.{Stream};
 ghost use Rattle.token_core.specs.Tokens as token;
@@ -48,7 +48,7 @@ use token_core::token::{
     Bracket, Comma, Const, For, Gt, Paren, Question, SelfType, Underscore, Use,
 };
 use token_core::{
-    Cursor, Error, ErrorKind, Ident, Items, Lifetime, Parse, ParseStream, Punctuated,
+    Boxed, Cursor, Error, ErrorKind, Ident, Items, Lifetime, Parse, ParseStream, Punctuated,
 };
 
 // ---- captures
@@ -347,17 +347,18 @@ fn underscore_after<A: Attributes, E: Value>(
     alloc: Global,
     input: &mut ParseStream<'_>,
     attrs: Items<A>,
-) -> Result<GenericParamOf<A, E>, Error>
+) -> Result<Boxed<GenericParamOf<A, E>>, Error>
     ensures parses { Parses (reading.underscore_after attrs) result input.old input.new }
 {
     let ident = parse_any_ident(alloc, input)?;
-    Ok(GenericParamOf::Type(TypeParamOf {
+    let param = TypeParamOf {
         attrs,
         ident,
         colon_token: None,
         bounds: Punctuated::new(alloc),
         default: None,
-    }))
+    };
+    boxed_param(alloc, GenericParamOf::Type(param), input)
 }
 
 /// The refusal where no parameter of a binder follows.
@@ -384,6 +385,32 @@ fn no_generics_param(alloc: Global, input: &ParseStream<'_>) -> Error
     look.error(alloc)
 }
 
+// ---- on the heap: as `boxed_type` does
+
+/// A bound on the heap.
+#[inline(never)]
+fn boxed_bound<A: Attributes, E: Value>(
+    alloc: Global,
+    bound: TypeParamBoundOf<A, E>,
+    input: &ParseStream<'_>,
+) -> Result<Boxed<TypeParamBoundOf<A, E>>, Error>
+    ensures reads { Reads (pure bound input.now) result input.now }
+{
+    Ok(Boxed::new(alloc, bound)?)
+}
+
+/// A parameter on the heap.
+#[inline(never)]
+fn boxed_param<A: Attributes, E: Value>(
+    alloc: Global,
+    param: GenericParamOf<A, E>,
+    input: &ParseStream<'_>,
+) -> Result<Boxed<GenericParamOf<A, E>>, Error>
+    ensures reads { Reads (pure param input.now) result input.now }
+{
+    Ok(Boxed::new(alloc, param)?)
+}
+
 // ---- over the readers of what they hold
 
 impl<'a, A: Attributes, E: Value, F, G, H, I, J> Grammar<'a, A, E, F, G, H, I, J> {
@@ -393,7 +420,7 @@ impl<'a, A: Attributes, E: Value, F, G, H, I, J> Grammar<'a, A, E, F, G, H, I, J
         &self,
         input: &mut ParseStream<'_>,
         place: BoundPlace,
-    ) -> Result<TypeParamBoundOf<A, E>, Error>
+    ) -> Result<Boxed<TypeParamBoundOf<A, E>>, Error>
         ensures parses { Parses
             (reading.capture_in_place (knot.reads_below A.reads E.reads (length self.now.begin)) place)
             result input.old input.new }
@@ -401,7 +428,7 @@ impl<'a, A: Attributes, E: Value, F, G, H, I, J> Grammar<'a, A, E, F, G, H, I, J
         let from = input.span();
         let capture = parse_capture(self.alloc, input)?;
         if place.allows_capture() {
-            return Ok(TypeParamBoundOf::PreciseCapture(capture));
+            return boxed_bound(self.alloc, TypeParamBoundOf::PreciseCapture(capture), input);
         }
         Err(refuse_since(self.alloc, ErrorKind::CaptureNotAllowed, from, input))
     }
@@ -418,7 +445,7 @@ impl<
         PhantomData<GenericParamOf<A, E>>,
         &mut ParseStream<'_>,
         ParamPlace,
-    ) -> Result<GenericParamOf<A, E>, Error>
+    ) -> Result<Boxed<GenericParamOf<A, E>>, Error>
         + Copy,
     I,
     J,
@@ -501,7 +528,7 @@ impl<
         PhantomData<TypeOf<A, E>>,
         &mut ParseStream<'_>,
         TypePlace,
-    ) -> Result<TypeOf<A, E>, Error>
+    ) -> Result<Boxed<TypeOf<A, E>>, Error>
         + Copy,
     G,
     H: Fn(
@@ -509,7 +536,7 @@ impl<
         PhantomData<GenericParamOf<A, E>>,
         &mut ParseStream<'_>,
         ParamPlace,
-    ) -> Result<GenericParamOf<A, E>, Error>
+    ) -> Result<Boxed<GenericParamOf<A, E>>, Error>
         + Copy,
     I,
     J: Fn(
@@ -517,7 +544,7 @@ impl<
         PhantomData<PathArgumentsOf<A, E>>,
         &mut ParseStream<'_>,
         (),
-    ) -> Result<PathArgumentsOf<A, E>, Error>
+    ) -> Result<Boxed<PathArgumentsOf<A, E>>, Error>
         + Copy,
 > Grammar<'a, A, E, F, G, H, I, J> {
     /// A trait bound after its first binder and its modifiers: `?`, a binder behind it, a path in the style of types and its
@@ -599,7 +626,7 @@ impl<
         &self,
         input: &mut ParseStream<'_>,
         place: BoundPlace,
-    ) -> Result<TypeParamBoundOf<A, E>, Error>
+    ) -> Result<Boxed<TypeParamBoundOf<A, E>>, Error>
         requires types { Nests (knot.ty A.reads E.reads) (length self.now.begin)
             (F.pre self.now.types) (F.post self.now.types) }
         requires params { Nests (knot.param A.reads E.reads) (length self.now.begin)
@@ -614,9 +641,17 @@ impl<
         let consts = place.allows_const();
         if input.peek::<Paren>() {
             let (paren_token, bound) = self.trait_in_parens(input, consts)?;
-            return Ok(TypeParamBoundOf::Trait(held_bound(paren_token, bound)));
+            return boxed_bound(
+                self.alloc,
+                TypeParamBoundOf::Trait(held_bound(paren_token, bound)),
+                input,
+            );
         }
-        Ok(TypeParamBoundOf::Trait(self.trait_in(input, consts)?))
+        boxed_bound(
+            self.alloc,
+            TypeParamBoundOf::Trait(self.trait_in(input, consts)?),
+            input,
+        )
     }
 
     /// One turn: a bound in its place. A lifetime, `use<..>`, or a trait by its path.
@@ -625,7 +660,7 @@ impl<
         &self,
         input: &mut ParseStream<'_>,
         place: BoundPlace,
-    ) -> Result<TypeParamBoundOf<A, E>, Error>
+    ) -> Result<Boxed<TypeParamBoundOf<A, E>>, Error>
         requires types { Nests (knot.ty A.reads E.reads) (length self.now.begin)
             (F.pre self.now.types) (F.post self.now.types) }
         requires params { Nests (knot.param A.reads E.reads) (length self.now.begin)
@@ -638,7 +673,7 @@ impl<
     {
         if input.peek::<Lifetime>() {
             let lifetime = parse_any_lifetime(self.alloc, input)?;
-            return Ok(TypeParamBoundOf::Lifetime(lifetime));
+            return boxed_bound(self.alloc, TypeParamBoundOf::Lifetime(lifetime), input);
         }
         if input.peek::<Use>() {
             return self.capture_in_place(input, place);
@@ -656,7 +691,7 @@ impl<
         PhantomData<TypeOf<A, E>>,
         &mut ParseStream<'_>,
         TypePlace,
-    ) -> Result<TypeOf<A, E>, Error>
+    ) -> Result<Boxed<TypeOf<A, E>>, Error>
         + Copy,
     G,
     H,
@@ -702,14 +737,14 @@ impl<
         PhantomData<TypeOf<A, E>>,
         &mut ParseStream<'_>,
         TypePlace,
-    ) -> Result<TypeOf<A, E>, Error>
+    ) -> Result<Boxed<TypeOf<A, E>>, Error>
         + Copy,
     G: Fn(
         Global,
         PhantomData<TypeParamBoundOf<A, E>>,
         &mut ParseStream<'_>,
         BoundPlace,
-    ) -> Result<TypeParamBoundOf<A, E>, Error>
+    ) -> Result<Boxed<TypeParamBoundOf<A, E>>, Error>
         + Copy,
     H,
     I,
@@ -754,7 +789,7 @@ impl<
         &self,
         input: &mut ParseStream<'_>,
         attrs: Items<A>,
-    ) -> Result<GenericParamOf<A, E>, Error>
+    ) -> Result<Boxed<GenericParamOf<A, E>>, Error>
         requires types { Nests (knot.ty A.reads E.reads) (length self.now.begin)
             (F.pre self.now.types) (F.post self.now.types) }
         requires bounds { Nests (knot.bound A.reads E.reads) (length self.now.begin)
@@ -765,13 +800,16 @@ impl<
             result input.old input.new }
     {
         if input.peek::<Ident>() {
-            return Ok(GenericParamOf::Type(self.type_after(input, attrs)?));
+            let ty = self.type_after(input, attrs)?;
+            return boxed_param(self.alloc, GenericParamOf::Type(ty), input);
         }
         if input.peek::<Lifetime>() {
-            return Ok(GenericParamOf::Lifetime(lifetime_after(self.alloc, input, attrs)?));
+            let lifetime = lifetime_after(self.alloc, input, attrs)?;
+            return boxed_param(self.alloc, GenericParamOf::Lifetime(lifetime), input);
         }
         if input.peek::<Const>() {
-            return Ok(GenericParamOf::Const(self.const_after(input, attrs)?));
+            let constant = self.const_after(input, attrs)?;
+            return boxed_param(self.alloc, GenericParamOf::Const(constant), input);
         }
         Err(no_binder_param(self.alloc, input))
     }
@@ -782,7 +820,7 @@ impl<
         &self,
         input: &mut ParseStream<'_>,
         attrs: Items<A>,
-    ) -> Result<GenericParamOf<A, E>, Error>
+    ) -> Result<Boxed<GenericParamOf<A, E>>, Error>
         requires types { Nests (knot.ty A.reads E.reads) (length self.now.begin)
             (F.pre self.now.types) (F.post self.now.types) }
         requires bounds { Nests (knot.bound A.reads E.reads) (length self.now.begin)
@@ -793,13 +831,16 @@ impl<
             result input.old input.new }
     {
         if input.peek::<Lifetime>() {
-            return Ok(GenericParamOf::Lifetime(lifetime_after(self.alloc, input, attrs)?));
+            let lifetime = lifetime_after(self.alloc, input, attrs)?;
+            return boxed_param(self.alloc, GenericParamOf::Lifetime(lifetime), input);
         }
         if input.peek::<Ident>() {
-            return Ok(GenericParamOf::Type(self.type_after(input, attrs)?));
+            let ty = self.type_after(input, attrs)?;
+            return boxed_param(self.alloc, GenericParamOf::Type(ty), input);
         }
         if input.peek::<Const>() {
-            return Ok(GenericParamOf::Const(self.const_after(input, attrs)?));
+            let constant = self.const_after(input, attrs)?;
+            return boxed_param(self.alloc, GenericParamOf::Const(constant), input);
         }
         if input.peek::<Underscore>() {
             return underscore_after(self.alloc, input, attrs);
@@ -813,7 +854,7 @@ impl<
         &self,
         input: &mut ParseStream<'_>,
         place: ParamPlace,
-    ) -> Result<GenericParamOf<A, E>, Error>
+    ) -> Result<Boxed<GenericParamOf<A, E>>, Error>
         requires types { Nests (knot.ty A.reads E.reads) (length self.now.begin)
             (F.pre self.now.types) (F.post self.now.types) }
         requires bounds { Nests (knot.bound A.reads E.reads) (length self.now.begin)
@@ -989,6 +1030,30 @@ fn parse_optional_binder<A: Attributes, E: Value>(
     optional_binder_from::<A, E>(alloc, &begin, input)
 }
 
+/// A bound by itself, in its place.
+fn parse_bound<A: Attributes, E: Value>(
+    alloc: Global,
+    input: &mut ParseStream<'_>,
+    place: BoundPlace,
+) -> Result<TypeParamBoundOf<A, E>, Error>
+    ensures parses { Parses (knot.bound A.reads E.reads place) result input.old input.new }
+{
+    let bound = TypeParamBoundOf::<A, E>::parse_held(alloc, PhantomData, input, place)?;
+    Ok(bound.into_inner())
+}
+
+/// A parameter by itself, in its place.
+fn parse_param<A: Attributes, E: Value>(
+    alloc: Global,
+    input: &mut ParseStream<'_>,
+    place: ParamPlace,
+) -> Result<GenericParamOf<A, E>, Error>
+    ensures parses { Parses (knot.param A.reads E.reads place) result input.old input.new }
+{
+    let param = GenericParamOf::<A, E>::parse_held(alloc, PhantomData, input, place)?;
+    Ok(param.into_inner())
+}
+
 /// A trait bound by itself.
 #[tactic(auto, unfolding(crate::specs::ty::Knot::trait_bound))]
 fn parse_trait_bound<A: Attributes, E: Value>(
@@ -1157,7 +1222,7 @@ impl<A: Attributes, E: Value> Parse for TypeParamBoundOf<A, E> {
             input.old result input.new }
         ensures front { Takes (fronts.bound A.spells E.spells) input.old result input.new }
     {
-        TypeParamBoundOf::parse_held(alloc, PhantomData, input, BoundPlace::Opaque)
+        parse_bound(alloc, input, BoundPlace::Opaque)
     }
 }
 
@@ -1211,7 +1276,7 @@ impl<A: Attributes, E: Value> Parse for GenericParamOf<A, E> {
             input.old result input.new }
         ensures front { Takes (fronts.param A.spells E.spells) input.old result input.new }
     {
-        GenericParamOf::parse_held(alloc, PhantomData, input, ParamPlace::Binder)
+        parse_param(alloc, input, ParamPlace::Binder)
     }
 }
 

@@ -20,7 +20,7 @@ ghost use Rattle.syn_ty.specs.ty.Points.{a_bound};
 ghost use Rattle.syn_ty.specs.ty.Reading as types;
 ghost use Rattle.syn_ty.specs.ty.Types as parts;
 ghost use Rattle.token_core.specs.Headline.{Heads, Headline};
-ghost use Rattle.token_core.specs.Reads.{Fails, Follows, Gives, Parses, Reads, and_then, optional};
+ghost use Rattle.token_core.specs.Reads.{Fails, Follows, Gives, Parses, Reads, and_then, optional, pure};
 ghost use Rattle.token_core.specs.Tokens as token;
 
 use crate::generics::{GenericParamOf, TypeParamBoundOf};
@@ -241,6 +241,32 @@ fn into_item<A: Attributes, E: Value>(ty: TypeOf<A, E>) -> Option<Item<A, E>>
     }
 }
 
+// ---- on the heap: as `boxed_type` does
+
+/// An argument in angle brackets, on the heap.
+#[inline(never)]
+fn boxed_argument<A: Attributes, E: Value>(
+    alloc: Global,
+    argument: GenericArgumentOf<A, E>,
+    input: &ParseStream<'_>,
+) -> Result<Boxed<GenericArgumentOf<A, E>>, Error>
+    ensures reads { Reads (pure argument input.now) result input.now }
+{
+    Ok(Boxed::new(alloc, argument)?)
+}
+
+/// The arguments of a segment, on the heap.
+#[inline(never)]
+fn boxed_arguments<A: Attributes, E: Value>(
+    alloc: Global,
+    arguments: PathArgumentsOf<A, E>,
+    input: &ParseStream<'_>,
+) -> Result<Boxed<PathArgumentsOf<A, E>>, Error>
+    ensures reads { Reads (pure arguments input.now) result input.now }
+{
+    Ok(Boxed::new(alloc, arguments)?)
+}
+
 // ---- trees by their parts
 
 /// An argument without attributes and a name, by its type.
@@ -339,7 +365,7 @@ impl<
         PhantomData<GenericArgumentOf<A, E>>,
         &mut ParseStream<'_>,
         (),
-    ) -> Result<GenericArgumentOf<A, E>, Error>
+    ) -> Result<Boxed<GenericArgumentOf<A, E>>, Error>
         + Copy,
     J,
 > Grammar<'a, A, E, F, G, H, I, J> {
@@ -391,14 +417,18 @@ impl<
     pub fn arguments_step(
         &self,
         input: &mut ParseStream<'_>,
-    ) -> Result<PathArgumentsOf<A, E>, Error>
+    ) -> Result<Boxed<PathArgumentsOf<A, E>>, Error>
         requires args { Nests (knot.argument_in A.reads E.reads) (length self.now.begin)
             (I.pre self.now.args) (I.post self.now.args) }
         requires few { ahead input.old ≤ length self.now.begin }
         ensures parses { Parses (reading.arguments_step (knot.reads_below A.reads E.reads (length self.now.begin)))
             result input.old input.new }
     {
-        Ok(PathArgumentsOf::AngleBracketed(self.angle_bracketed(input)?))
+        boxed_arguments(
+            self.alloc,
+            PathArgumentsOf::AngleBracketed(self.angle_bracketed(input)?),
+            input,
+        )
     }
 }
 
@@ -415,7 +445,7 @@ impl<
         PhantomData<PathArgumentsOf<A, E>>,
         &mut ParseStream<'_>,
         (),
-    ) -> Result<PathArgumentsOf<A, E>, Error>
+    ) -> Result<Boxed<PathArgumentsOf<A, E>>, Error>
         + Copy,
 > Grammar<'a, A, E, F, G, H, I, J> {
     // ---- paths
@@ -464,7 +494,7 @@ impl<
         PhantomData<TypeOf<A, E>>,
         &mut ParseStream<'_>,
         TypePlace,
-    ) -> Result<TypeOf<A, E>, Error>
+    ) -> Result<Boxed<TypeOf<A, E>>, Error>
         + Copy,
     G,
     H,
@@ -474,7 +504,7 @@ impl<
         PhantomData<PathArgumentsOf<A, E>>,
         &mut ParseStream<'_>,
         (),
-    ) -> Result<PathArgumentsOf<A, E>, Error>
+    ) -> Result<Boxed<PathArgumentsOf<A, E>>, Error>
         + Copy,
 > Grammar<'a, A, E, F, G, H, I, J> {
     /// A path, in this style, that a type in `<..>` may qualify.
@@ -508,7 +538,7 @@ impl<
         PhantomData<TypeOf<A, E>>,
         &mut ParseStream<'_>,
         TypePlace,
-    ) -> Result<TypeOf<A, E>, Error>
+    ) -> Result<Boxed<TypeOf<A, E>>, Error>
         + Copy,
     G,
     H,
@@ -590,7 +620,7 @@ impl<
         input: &mut ParseStream<'_>,
         item: Item<A, E>,
         eq_token: Eq,
-    ) -> Result<GenericArgumentOf<A, E>, Error>
+    ) -> Result<Boxed<GenericArgumentOf<A, E>>, Error>
         requires types { Nests (knot.ty A.reads E.reads) (length self.now.begin)
             (F.pre self.now.types) (F.post self.now.types) }
         requires few { ahead input.old < length self.now.begin }
@@ -600,10 +630,14 @@ impl<
     {
         if peek_const(input) {
             let value = E::read_const_argument(self.alloc, input)?;
-            return Ok(assoc_const(item, eq_token, value));
+            return boxed_argument(self.alloc, assoc_const(item, eq_token, value), input);
         }
-        let ty = self.types().value(input, TypePlace::Plus)?;
-        Ok(assoc_type(item, eq_token, ty))
+        let ty = self.types().boxed(input, TypePlace::Plus)?;
+        boxed_argument(
+            self.alloc,
+            assoc_type(item, eq_token, ty.into_inner()),
+            input,
+        )
     }
 }
 
@@ -617,7 +651,7 @@ impl<
         PhantomData<TypeParamBoundOf<A, E>>,
         &mut ParseStream<'_>,
         BoundPlace,
-    ) -> Result<TypeParamBoundOf<A, E>, Error>
+    ) -> Result<Boxed<TypeParamBoundOf<A, E>>, Error>
         + Copy,
     H,
     I,
@@ -647,7 +681,7 @@ impl<
         input: &mut ParseStream<'_>,
         item: Item<A, E>,
         colon_token: Colon,
-    ) -> Result<GenericArgumentOf<A, E>, Error>
+    ) -> Result<Boxed<GenericArgumentOf<A, E>>, Error>
         requires bounds { Nests (knot.bound A.reads E.reads) (length self.now.begin)
             (G.pre self.now.bounds) (G.post self.now.bounds) }
         requires few { ahead input.old < length self.now.begin }
@@ -656,7 +690,7 @@ impl<
             result input.old input.new }
     {
         let bounds = self.constraint_bounds(input)?;
-        Ok(constraint_of(item, colon_token, bounds))
+        boxed_argument(self.alloc, constraint_of(item, colon_token, bounds), input)
     }
 }
 
@@ -669,14 +703,14 @@ impl<
         PhantomData<TypeOf<A, E>>,
         &mut ParseStream<'_>,
         TypePlace,
-    ) -> Result<TypeOf<A, E>, Error>
+    ) -> Result<Boxed<TypeOf<A, E>>, Error>
         + Copy,
     G: Fn(
         Global,
         PhantomData<TypeParamBoundOf<A, E>>,
         &mut ParseStream<'_>,
         BoundPlace,
-    ) -> Result<TypeParamBoundOf<A, E>, Error>
+    ) -> Result<Boxed<TypeParamBoundOf<A, E>>, Error>
         + Copy,
     H,
     I,
@@ -688,8 +722,8 @@ impl<
     fn after_type(
         &self,
         input: &mut ParseStream<'_>,
-        ty: TypeOf<A, E>,
-    ) -> Result<GenericArgumentOf<A, E>, Error>
+        ty: Boxed<TypeOf<A, E>>,
+    ) -> Result<Boxed<GenericArgumentOf<A, E>>, Error>
         requires types { Nests (knot.ty A.reads E.reads) (length self.now.begin)
             (F.pre self.now.types) (F.post self.now.types) }
         requires bounds { Nests (knot.bound A.reads E.reads) (length self.now.begin)
@@ -699,12 +733,12 @@ impl<
             (knot.reads_below A.reads E.reads (length self.now.begin)) ty (reading.item_of ty))
             result input.old input.new }
     {
-        if !names_item(&ty) {
-            return Ok(GenericArgumentOf::Type(ty));
+        if !names_item(ty.get()) {
+            return boxed_argument(self.alloc, GenericArgumentOf::Type(ty.into_inner()), input);
         }
         // the type is taken apart before the mark is read, so that no way out drops it
         if input.peek::<Eq>() {
-            return match into_item(ty) {
+            return match into_item(ty.into_inner()) {
                 Some(item) => {
                     let eq_token = parse_eq(self.alloc, input)?;
                     self.assoc(input, item, eq_token)
@@ -713,7 +747,7 @@ impl<
             };
         }
         if input.peek::<Colon>() {
-            return match into_item(ty) {
+            return match into_item(ty.into_inner()) {
                 Some(item) => {
                     let colon_token = parse_colon(self.alloc, input)?;
                     self.constraint(input, item, colon_token)
@@ -721,7 +755,7 @@ impl<
                 None => unreachable!(),
             };
         }
-        Ok(GenericArgumentOf::Type(ty))
+        boxed_argument(self.alloc, GenericArgumentOf::Type(ty.into_inner()), input)
     }
 }
 
@@ -734,35 +768,35 @@ impl<
         PhantomData<TypeOf<A, E>>,
         &mut ParseStream<'_>,
         TypePlace,
-    ) -> Result<TypeOf<A, E>, Error>
+    ) -> Result<Boxed<TypeOf<A, E>>, Error>
         + Copy,
     G: Fn(
         Global,
         PhantomData<TypeParamBoundOf<A, E>>,
         &mut ParseStream<'_>,
         BoundPlace,
-    ) -> Result<TypeParamBoundOf<A, E>, Error>
+    ) -> Result<Boxed<TypeParamBoundOf<A, E>>, Error>
         + Copy,
     H: Fn(
         Global,
         PhantomData<GenericParamOf<A, E>>,
         &mut ParseStream<'_>,
         ParamPlace,
-    ) -> Result<GenericParamOf<A, E>, Error>
+    ) -> Result<Boxed<GenericParamOf<A, E>>, Error>
         + Copy,
     I: Fn(
         Global,
         PhantomData<GenericArgumentOf<A, E>>,
         &mut ParseStream<'_>,
         (),
-    ) -> Result<GenericArgumentOf<A, E>, Error>
+    ) -> Result<Boxed<GenericArgumentOf<A, E>>, Error>
         + Copy,
     J: Fn(
         Global,
         PhantomData<PathArgumentsOf<A, E>>,
         &mut ParseStream<'_>,
         (),
-    ) -> Result<PathArgumentsOf<A, E>, Error>
+    ) -> Result<Boxed<PathArgumentsOf<A, E>>, Error>
         + Copy,
 > Grammar<'a, A, E, F, G, H, I, J> {
     /// One turn: an argument in angle brackets. It is a lifetime that no `+` follows, a constant where a literal or braces
@@ -772,7 +806,7 @@ impl<
     pub fn argument_step(
         &self,
         input: &mut ParseStream<'_>,
-    ) -> Result<GenericArgumentOf<A, E>, Error>
+    ) -> Result<Boxed<GenericArgumentOf<A, E>>, Error>
         requires types { Nests (knot.ty A.reads E.reads) (length self.now.begin)
             (F.pre self.now.types) (F.post self.now.types) }
         requires bounds { Nests (knot.bound A.reads E.reads) (length self.now.begin)
@@ -791,11 +825,11 @@ impl<
     {
         if peek_lone_lifetime(input) {
             let lifetime = parse_any_lifetime(self.alloc, input)?;
-            return Ok(GenericArgumentOf::Lifetime(lifetime));
+            return boxed_argument(self.alloc, GenericArgumentOf::Lifetime(lifetime), input);
         }
         if peek_const(input) {
             let value = E::read_const_argument(self.alloc, input)?;
-            return Ok(GenericArgumentOf::Const(value));
+            return boxed_argument(self.alloc, GenericArgumentOf::Const(value), input);
         }
         let ty = self.type_step(input, TypePlace::Plus)?;
         self.after_type(input, ty)
@@ -980,7 +1014,13 @@ fn parse_argument<A: Attributes, E: Value>(
 ) -> Result<GenericArgumentOf<A, E>, Error>
     ensures parses { Parses (knot.argument A.reads E.reads) result input.old input.new }
 {
-    <GenericArgumentOf<A, E> as Held<()>>::parse_held(alloc, PhantomData, input, ())
+    let argument = <GenericArgumentOf<A, E> as Held<()>>::parse_held(
+        alloc,
+        PhantomData,
+        input,
+        (),
+    )?;
+    Ok(argument.into_inner())
 }
 
 /// Reads paths and segments as they stand in types.

@@ -32,7 +32,7 @@ use crate::generics::TypeParamBoundOf;
 use crate::ty::read::alone::{
     parse_array, parse_fn_ptr, parse_group, parse_impl_trait, parse_named_arg, parse_paren,
     parse_path_type, parse_ptr, parse_reference, parse_return_type, parse_slice,
-    parse_trait_object, parse_tuple,
+    parse_trait_object, parse_tuple, parse_type,
 };
 use crate::ty::read::tokens::{
     parse_abi, parse_infer, parse_macro_type, parse_never, parse_optional_abi,
@@ -43,8 +43,6 @@ use crate::ty::{
     TypeReferenceOf, TypeSliceOf, TypeTraitObjectOf, TypeTupleOf,
 };
 use std::alloc::Global;
-use std::marker::PhantomData;
-use syn_forms::nested::Held;
 use syn_forms::places::TypePlace;
 use syn_path::supplied::{Attributes, Value};
 use token_core::{Error, Parse, ParseStream};
@@ -62,7 +60,7 @@ impl<A: Attributes, E: Value> TypeOf<A, E> {
         ensures cases { sees_invisible input.old.rest ≡ true → IfOk result
             (λ x. IsReadGrouped (knot.reads_below A.reads E.reads (ahead input.old)) input.old x input.new) }
     {
-        <TypeOf<A, E> as Held<TypePlace>>::parse_held(alloc, PhantomData, input, TypePlace::NoPlus)
+        parse_type(alloc, input, TypePlace::NoPlus)
     }
 }
 
@@ -94,7 +92,7 @@ impl<A: Attributes, E: Value> Parse for TypeOf<A, E> {
         ensures cases { sees_invisible input.old.rest ≡ true → IfOk result
             (λ x. IsReadGrouped (knot.reads_below A.reads E.reads (ahead input.old)) input.old x input.new) }
     {
-        <TypeOf<A, E> as Held<TypePlace>>::parse_held(alloc, PhantomData, input, TypePlace::Plus)
+        parse_type(alloc, input, TypePlace::Plus)
     }
 }
 

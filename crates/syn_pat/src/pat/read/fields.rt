@@ -108,7 +108,7 @@ impl<
         PhantomData<PatOver<X, G, Q, T>>,
         &mut ParseStream<'_>,
         PatPlace,
-    ) -> Result<PatOver<X, G, Q, T>, Error>
+    ) -> Result<Boxed<PatOver<X, G, Q, T>>, Error>
         + Copy,
 > Patterns<'a, X, G, Q, T, F> {
     /// A member's `:` and pattern.

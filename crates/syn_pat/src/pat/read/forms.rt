@@ -77,7 +77,7 @@ impl<
         PhantomData<PatOver<X, G, Q, T>>,
         &mut ParseStream<'_>,
         PatPlace,
-    ) -> Result<PatOver<X, G, Q, T>, Error>
+    ) -> Result<Boxed<PatOver<X, G, Q, T>>, Error>
         + Copy,
 > Patterns<'a, X, G, Q, T, F> {
     /// `@` and a pattern, which may be there.
@@ -161,7 +161,7 @@ impl<
     {
         let from = input.cursor();
         parse_box(self.alloc, input)?;
-        self.patterns().value(input, PatPlace::Single)?;
+        self.patterns().boxed(input, PatPlace::Single)?;
         Ok(PatOf::Verbatim(since(self.alloc, &from, input)?))
     }
 }

@@ -64,7 +64,7 @@ impl<
         PhantomData<PatOver<X, G, Q, T>>,
         &mut ParseStream<'_>,
         PatPlace,
-    ) -> Result<PatOver<X, G, Q, T>, Error>
+    ) -> Result<Boxed<PatOver<X, G, Q, T>>, Error>
         + Copy,
 > Patterns<'a, X, G, Q, T, F> {
     /// Patterns in a place up to the end of their group, joined by commas; one may follow the last.
@@ -139,13 +139,13 @@ impl<
         if input.is_empty() {
             return Ok(InParens::Elements(Punctuated::new(self.alloc)));
         }
-        let first = self.patterns().value(input, PatPlace::LeadingVert)?;
-        if input.is_empty() & !first.is_rest() {
-            return Ok(InParens::One(Boxed::new(self.alloc, first)?));
+        let first = self.patterns().boxed(input, PatPlace::LeadingVert)?;
+        if input.is_empty() & !first.get().is_rest() {
+            return Ok(InParens::One(first));
         }
         let elems = self
             .patterns()
-            .list_from(input, PatPlace::LeadingVert, ToEnd, first)?;
+            .list_from(input, PatPlace::LeadingVert, ToEnd, first.into_inner())?;
         Ok(InParens::Elements(elems))
     }
 

@@ -23,7 +23,7 @@ use syn_path::path::{Arguments, PathOf, without_arguments};
 use syn_path::supplied::Subtree;
 use syn_ty::ty::read::tokens::sees_call;
 use token_core::token::{Brace, Paren};
-use token_core::{Error, Items, ParseStream};
+use token_core::{Boxed, Error, Items, ParseStream};
 
 /// A macro call by a path that was read, which has no arguments.
 #[tactic(auto, using(token_core::proofs::Suffixes::follows))]
@@ -53,7 +53,7 @@ impl<
         PhantomData<PatOver<X, G, Q, T>>,
         &mut ParseStream<'_>,
         PatPlace,
-    ) -> Result<PatOver<X, G, Q, T>, Error>
+    ) -> Result<Boxed<PatOver<X, G, Q, T>>, Error>
         + Copy,
 > Patterns<'a, X, G, Q, T, F> {
     /// Fields in braces after the path of a struct (syn's `pat_struct`).

@@ -6,7 +6,7 @@ ghost use Rattle.syn_pat.specs.pat.Knot as knot;
 ghost use Rattle.syn_pat.specs.pat.Reading as reading;
 ghost use Rattle.syn_pat.specs.pat.Reading.{named};
 ghost use Rattle.token_core.specs.Loops.{never};
-ghost use Rattle.token_core.specs.Reads.{Parses, optional};
+ghost use Rattle.token_core.specs.Reads.{Parses, Reads, optional, pure};
 ghost use Rattle.token_core.specs.Tokens as token;
 
 use crate::names::Qualifier;
@@ -24,7 +24,7 @@ use syn_forms::lists::End;
 use syn_path::path::Arguments;
 use syn_path::supplied::Subtree;
 use token_core::token::{And, Box, Bracket, Or, Paren, Underscore};
-use token_core::{Error, ErrorKind, Items, ParseStream, RangeLimits, Span};
+use token_core::{Boxed, Error, ErrorKind, Items, ParseStream, RangeLimits, Span};
 
 /// Patterns joined by `|`, each of them needed.
 #[derive(Clone, Copy)]
@@ -82,16 +82,29 @@ fn open_range<X: Subtree, G: Arguments, Q: Qualifier<G>, T: Drop>(
     }
 }
 
+/// A pattern on the heap: a read of no token, which is refused for want of memory alone. It stays out of line, so that what
+/// reads a pattern within a pattern keeps no room for it.
+#[inline(never)]
+fn boxed_pat<X: Subtree, G: Arguments, Q: Qualifier<G>, T: Drop>(
+    alloc: Global,
+    pat: PatOver<X, G, Q, T>,
+    input: &ParseStream<'_>,
+) -> Result<Boxed<PatOver<X, G, Q, T>>, Error>
+    ensures reads { Reads (pure pat input.now) result input.now }
+{
+    Ok(Boxed::new(alloc, pat)?)
+}
+
 /// An element of a slice: a range that lacks a bound is refused, from the first to the last character of its limits.
 #[tactic(auto, using(token_core::proofs::Suffixes::follows))]
 fn as_element<X: Subtree, G: Arguments, Q: Qualifier<G>, T: Drop>(
     alloc: Global,
     input: &mut ParseStream<'_>,
-    pat: PatOver<X, G, Q, T>,
-) -> Result<PatOver<X, G, Q, T>, Error>
+    pat: Boxed<PatOver<X, G, Q, T>>,
+) -> Result<Boxed<PatOver<X, G, Q, T>>, Error>
     ensures parses { Parses (reading.as_element pat) result input.old input.new }
 {
-    match open_range(&pat) {
+    match open_range(pat.get()) {
         None => Ok(pat),
         Some((start, end)) => {
             let kind = ErrorKind::OpenRangeInSlice;
@@ -111,7 +124,7 @@ impl<
         PhantomData<PatOver<X, G, Q, T>>,
         &mut ParseStream<'_>,
         PatPlace,
-    ) -> Result<PatOver<X, G, Q, T>, Error>
+    ) -> Result<Boxed<PatOver<X, G, Q, T>>, Error>
         + Copy,
 > Patterns<'a, X, G, Q, T, F> {
     /// A pattern that begins with a mark or a group.
@@ -166,7 +179,7 @@ impl<
 
     /// One pattern, by its first tokens (syn's `PatOf::parse_single`).
     #[tactic(auto, using(token_core::proofs::Suffixes::follows, syn_forms::proofs::nested_laws::Ahead::later), unfolding(crate::specs::pat::Reading::single))]
-    fn single(&self, input: &mut ParseStream<'_>) -> Result<PatOver<X, G, Q, T>, Error>
+    fn single(&self, input: &mut ParseStream<'_>) -> Result<Boxed<PatOver<X, G, Q, T>>, Error>
         requires patterns { Nests (knot.pat X.reads (named Q.reads G.is_absent)) (length self.now.begin)
             (F.pre self.now.patterns) (F.post self.now.patterns) }
         requires few { ahead input.old ≤ length self.now.begin }
@@ -176,9 +189,9 @@ impl<
         ensures fewer { ahead input.new ≤ ahead input.old }
     {
         if begins_path(input) {
-            return self.path_pat(input);
+            return boxed_pat(self.alloc, self.path_pat(input)?, input);
         }
-        self.by_word(input)
+        boxed_pat(self.alloc, self.by_word(input)?, input)
     }
 
     /// After a pattern, and a `|` that may stand before it: further ones after `|` (syn's `multi_pat_impl`).
@@ -187,8 +200,8 @@ impl<
         &self,
         input: &mut ParseStream<'_>,
         leading_vert: Option<Or>,
-        first: PatOver<X, G, Q, T>,
-    ) -> Result<PatOver<X, G, Q, T>, Error>
+        first: Boxed<PatOver<X, G, Q, T>>,
+    ) -> Result<Boxed<PatOver<X, G, Q, T>>, Error>
         requires patterns { Nests (knot.pat X.reads (named Q.reads G.is_absent)) (length self.now.begin)
             (F.pre self.now.patterns) (F.post self.now.patterns) }
         requires few { ahead input.old ≤ length self.now.begin }
@@ -201,17 +214,18 @@ impl<
         }
         let cases = self
             .patterns()
-            .list_from(input, PatPlace::Single, AtVert, first)?;
-        Ok(PatOf::Or(PatOrOf {
+            .list_from(input, PatPlace::Single, AtVert, first.into_inner())?;
+        let form = PatOrOf {
             attrs: Items::new(self.alloc),
             leading_vert,
             cases,
-        }))
+        };
+        boxed_pat(self.alloc, PatOf::Or(form), input)
     }
 
     /// Patterns joined by `|`, of which the first may have one before it.
     #[tactic(auto, using(token_core::proofs::Suffixes::follows, syn_forms::proofs::nested_laws::Ahead::later), unfolding(crate::specs::pat::Reading::leading))]
-    fn leading(&self, input: &mut ParseStream<'_>) -> Result<PatOver<X, G, Q, T>, Error>
+    fn leading(&self, input: &mut ParseStream<'_>) -> Result<Boxed<PatOver<X, G, Q, T>>, Error>
         requires patterns { Nests (knot.pat X.reads (named Q.reads G.is_absent)) (length self.now.begin)
             (F.pre self.now.patterns) (F.post self.now.patterns) }
         requires few { ahead input.old ≤ length self.now.begin }
@@ -226,7 +240,7 @@ impl<
 
     /// Patterns joined by `|`.
     #[tactic(auto, using(token_core::proofs::Suffixes::follows, syn_forms::proofs::nested_laws::Ahead::later), unfolding(crate::specs::pat::Reading::multi))]
-    fn multi(&self, input: &mut ParseStream<'_>) -> Result<PatOver<X, G, Q, T>, Error>
+    fn multi(&self, input: &mut ParseStream<'_>) -> Result<Boxed<PatOver<X, G, Q, T>>, Error>
         requires patterns { Nests (knot.pat X.reads (named Q.reads G.is_absent)) (length self.now.begin)
             (F.pre self.now.patterns) (F.post self.now.patterns) }
         requires few { ahead input.old ≤ length self.now.begin }
@@ -240,7 +254,7 @@ impl<
 
     /// An element of a slice.
     #[tactic(auto, using(token_core::proofs::Suffixes::follows, syn_forms::proofs::nested_laws::Ahead::later), unfolding(crate::specs::pat::Reading::element))]
-    fn element(&self, input: &mut ParseStream<'_>) -> Result<PatOver<X, G, Q, T>, Error>
+    fn element(&self, input: &mut ParseStream<'_>) -> Result<Boxed<PatOver<X, G, Q, T>>, Error>
         requires patterns { Nests (knot.pat X.reads (named Q.reads G.is_absent)) (length self.now.begin)
             (F.pre self.now.patterns) (F.post self.now.patterns) }
         requires few { ahead input.old ≤ length self.now.begin }
@@ -258,7 +272,7 @@ impl<
         &self,
         input: &mut ParseStream<'_>,
         place: PatPlace,
-    ) -> Result<PatOver<X, G, Q, T>, Error>
+    ) -> Result<Boxed<PatOver<X, G, Q, T>>, Error>
         requires patterns { Nests (knot.pat X.reads (named Q.reads G.is_absent)) (length self.now.begin)
             (F.pre self.now.patterns) (F.post self.now.patterns) }
         requires few { ahead input.old ≤ length self.now.begin }

@@ -11,7 +11,7 @@ use crate::generics::{BoundLifetimesOf, GenericParamOf, TypeParamBoundOf};
 use crate::grammar::Grammar;
 use crate::path::PathArgumentsOf;
 use crate::path::read::bare_path_type;
-use crate::ty::read::parts::{as_path, bare_group, has_arguments, object_of, qself_in};
+use crate::ty::read::parts::{as_path, bare_group, boxed_type, has_arguments, object_of, qself_in};
 use crate::ty::read::tokens::{
     plus_follows, sees_call, sees_further_arguments, sees_further_segment,
 };
@@ -32,15 +32,16 @@ fn macro_after<A: Attributes, E: Value>(
     alloc: Global,
     input: &mut ParseStream<'_>,
     path: &PathOf<PathArgumentsOf<A, E>>,
-) -> Result<TypeOf<A, E>, Error>
+) -> Result<Boxed<TypeOf<A, E>>, Error>
     ensures parses { Parses (reading.macro_after path.now) result input.old input.new }
 {
     let path = without_arguments(alloc, path)?;
     let mac = parse_call_after(alloc, input, path)?;
-    Ok(TypeOf::Macro(TypeMacroOf {
+    let form = TypeMacroOf {
         attrs: Items::new(alloc),
         mac,
-    }))
+    };
+    boxed_type(alloc, TypeOf::Macro(form), input)
 }
 
 impl<
@@ -53,7 +54,7 @@ impl<
         PhantomData<TypeParamBoundOf<A, E>>,
         &mut ParseStream<'_>,
         BoundPlace,
-    ) -> Result<TypeParamBoundOf<A, E>, Error>
+    ) -> Result<Boxed<TypeParamBoundOf<A, E>>, Error>
         + Copy,
     H,
     I,
@@ -67,7 +68,7 @@ impl<
         plus: bool,
         lifetimes: Option<BoundLifetimesOf<GenericParamOf<A, E>>>,
         path: PathOf<PathArgumentsOf<A, E>>,
-    ) -> Result<TypeOf<A, E>, Error>
+    ) -> Result<Boxed<TypeOf<A, E>>, Error>
         requires bounds { Nests (knot.bound A.reads E.reads) (length self.now.begin)
             (G.pre self.now.bounds) (G.post self.now.bounds) }
         requires few { ahead input.old ≤ length self.now.begin }
@@ -78,7 +79,7 @@ impl<
     {
         let first = TypeParamBoundOf::Trait(named_bound(lifetimes, None, path));
         let bounds = self.more_bounds(input, plus, first)?;
-        Ok(object_of(self.alloc, bounds))
+        boxed_type(self.alloc, object_of(self.alloc, bounds), input)
     }
 
     /// After an unqualified path: a macro call; a trait object, after a binder or where a `+` may follow and does; or the path alone.
@@ -89,7 +90,7 @@ impl<
         plus: bool,
         lifetimes: Option<BoundLifetimesOf<GenericParamOf<A, E>>>,
         path: PathOf<PathArgumentsOf<A, E>>,
-    ) -> Result<TypeOf<A, E>, Error>
+    ) -> Result<Boxed<TypeOf<A, E>>, Error>
         requires bounds { Nests (knot.bound A.reads E.reads) (length self.now.begin)
             (G.pre self.now.bounds) (G.post self.now.bounds) }
         requires few { ahead input.old ≤ length self.now.begin }
@@ -104,7 +105,8 @@ impl<
         if lifetimes.is_some() | plus_follows(input, plus) {
             return self.path_object(input, plus, lifetimes, path);
         }
-        Ok(TypeOf::Path(bare_path_type(self.alloc, None, path)))
+        let ty = bare_path_type(self.alloc, None, path);
+        boxed_type(self.alloc, TypeOf::Path(ty), input)
     }
 
     /// After a path: one that a type qualifies is the type.
@@ -117,7 +119,7 @@ impl<
         lifetimes: Option<BoundLifetimesOf<GenericParamOf<A, E>>>,
         qself: Option<QSelfOf<TypeOf<A, E>>>,
         path: PathOf<PathArgumentsOf<A, E>>,
-    ) -> Result<TypeOf<A, E>, Error>
+    ) -> Result<Boxed<TypeOf<A, E>>, Error>
         requires bounds { Nests (knot.bound A.reads E.reads) (length self.now.begin)
             (G.pre self.now.bounds) (G.post self.now.bounds) }
         requires few { ahead input.old ≤ length self.now.begin }
@@ -127,7 +129,10 @@ impl<
         ensures fewer { ahead input.new ≤ ahead input.old }
     {
         match qself {
-            Some(qself) => Ok(TypeOf::Path(bare_path_type(self.alloc, Some(qself), path))),
+            Some(qself) => {
+                let ty = bare_path_type(self.alloc, Some(qself), path);
+                boxed_type(self.alloc, TypeOf::Path(ty), input)
+            }
             None => self.after_path(input, plus, lifetimes, path),
         }
     }
@@ -146,7 +151,7 @@ impl<
         PhantomData<PathArgumentsOf<A, E>>,
         &mut ParseStream<'_>,
         (),
-    ) -> Result<PathArgumentsOf<A, E>, Error>
+    ) -> Result<Boxed<PathArgumentsOf<A, E>>, Error>
         + Copy,
 > Grammar<'a, A, E, F, G, H, I, J> {
     // ---- invisible groups
@@ -158,7 +163,7 @@ impl<
         input: &mut ParseStream<'_>,
         group_token: GroupToken,
         ty: TypeOf<A, E>,
-    ) -> Result<TypeOf<A, E>, Error>
+    ) -> Result<Boxed<TypeOf<A, E>>, Error>
         requires segments { Nests (knot.arguments_in A.reads E.reads) (length self.now.begin)
             (J.pre self.now.segments) (J.post self.now.segments) }
         requires few { ahead input.old ≤ length self.now.begin }
@@ -171,12 +176,17 @@ impl<
             Ok(ty) => {
                 let TypePathOf { attrs, qself, path } = ty;
                 let path = self.rest(input, path)?;
-                Ok(TypeOf::Path(TypePathOf { attrs, qself, path }))
+                boxed_type(
+                    self.alloc,
+                    TypeOf::Path(TypePathOf { attrs, qself, path }),
+                    input,
+                )
             }
             Err(ty) => {
                 let qself = qself_in(self.alloc, group_token, ty)?;
                 let path = self.path(input, PathStyle::AsWritten)?;
-                Ok(TypeOf::Path(bare_path_type(self.alloc, Some(qself), path)))
+                let ty = bare_path_type(self.alloc, Some(qself), path);
+                boxed_type(self.alloc, TypeOf::Path(ty), input)
             }
         }
     }
@@ -187,7 +197,7 @@ impl<
         &self,
         input: &mut ParseStream<'_>,
         ty: TypePathOf<A, E>,
-    ) -> Result<TypeOf<A, E>, Error>
+    ) -> Result<Boxed<TypeOf<A, E>>, Error>
         requires segments { Nests (knot.arguments_in A.reads E.reads) (length self.now.begin)
             (J.pre self.now.segments) (J.post self.now.segments) }
         requires few { ahead input.old < length self.now.begin }
@@ -196,10 +206,14 @@ impl<
         ensures fewer { ahead input.new ≤ ahead input.old }
     {
         let TypePathOf { attrs, qself, path } = ty;
-        let arguments = self.segments().value(input, ())?;
-        let path = with_last_arguments(path, arguments)?;
+        let arguments = self.segments().boxed(input, ())?;
+        let path = with_last_arguments(path, arguments.into_inner())?;
         let path = self.rest(input, path)?;
-        Ok(TypeOf::Path(TypePathOf { attrs, qself, path }))
+        boxed_type(
+            self.alloc,
+            TypeOf::Path(TypePathOf { attrs, qself, path }),
+            input,
+        )
     }
 
     /// After an invisible group that `<`, or `::` and `<`, follow: a path whose last segment has no arguments takes them and goes on; another type is left as it is.
@@ -209,7 +223,7 @@ impl<
         input: &mut ParseStream<'_>,
         group_token: GroupToken,
         ty: TypeOf<A, E>,
-    ) -> Result<TypeOf<A, E>, Error>
+    ) -> Result<Boxed<TypeOf<A, E>>, Error>
         requires segments { Nests (knot.arguments_in A.reads E.reads) (length self.now.begin)
             (J.pre self.now.segments) (J.post self.now.segments) }
         requires few { ahead input.old < length self.now.begin }
@@ -228,7 +242,11 @@ impl<
             Err(ty) => ty,
         };
         let elem = Boxed::new(self.alloc, ty)?;
-        Ok(TypeOf::Group(bare_group(self.alloc, (group_token, elem))))
+        boxed_type(
+            self.alloc,
+            TypeOf::Group(bare_group(self.alloc, (group_token, elem))),
+            input,
+        )
     }
 
     /// After an invisible group that no segment follows: arguments may, else it is a type of its own.
@@ -238,7 +256,7 @@ impl<
         input: &mut ParseStream<'_>,
         group_token: GroupToken,
         elem: Boxed<TypeOf<A, E>>,
-    ) -> Result<TypeOf<A, E>, Error>
+    ) -> Result<Boxed<TypeOf<A, E>>, Error>
         requires segments { Nests (knot.arguments_in A.reads E.reads) (length self.now.begin)
             (J.pre self.now.segments) (J.post self.now.segments) }
         requires few { ahead input.old < length self.now.begin }
@@ -250,7 +268,11 @@ impl<
         if sees_further_arguments(input) {
             return self.group_with_arguments(input, group_token, elem.into_inner());
         }
-        Ok(TypeOf::Group(bare_group(self.alloc, (group_token, elem))))
+        boxed_type(
+            self.alloc,
+            TypeOf::Group(bare_group(self.alloc, (group_token, elem))),
+            input,
+        )
     }
 
     /// What follows an invisible group may go on with the type that it holds.
@@ -260,7 +282,7 @@ impl<
         input: &mut ParseStream<'_>,
         group_token: GroupToken,
         elem: Boxed<TypeOf<A, E>>,
-    ) -> Result<TypeOf<A, E>, Error>
+    ) -> Result<Boxed<TypeOf<A, E>>, Error>
         requires segments { Nests (knot.arguments_in A.reads E.reads) (length self.now.begin)
             (J.pre self.now.segments) (J.post self.now.segments) }
         requires few { ahead input.old < length self.now.begin }
@@ -285,7 +307,7 @@ impl<
         PhantomData<TypeOf<A, E>>,
         &mut ParseStream<'_>,
         TypePlace,
-    ) -> Result<TypeOf<A, E>, Error>
+    ) -> Result<Boxed<TypeOf<A, E>>, Error>
         + Copy,
     G,
     H,
@@ -295,13 +317,16 @@ impl<
         PhantomData<PathArgumentsOf<A, E>>,
         &mut ParseStream<'_>,
         (),
-    ) -> Result<PathArgumentsOf<A, E>, Error>
+    ) -> Result<Boxed<PathArgumentsOf<A, E>>, Error>
         + Copy,
 > Grammar<'a, A, E, F, G, H, I, J> {
     /// A type in an invisible group, and what goes on with it (syn's `ambig_ty` at a group).
     #[tactic(auto, using(token_core::proofs::Suffixes::follows, syn_forms::proofs::nested_laws::Ahead::later), unfolding(crate::specs::ty::Reading::group_type))]
     #[inline(never)]
-    pub(crate) fn group_type(&self, input: &mut ParseStream<'_>) -> Result<TypeOf<A, E>, Error>
+    pub(crate) fn group_type(
+        &self,
+        input: &mut ParseStream<'_>,
+    ) -> Result<Boxed<TypeOf<A, E>>, Error>
         requires types { Nests (knot.ty A.reads E.reads) (length self.now.begin)
             (F.pre self.now.types) (F.post self.now.types) }
         requires segments { Nests (knot.arguments_in A.reads E.reads) (length self.now.begin)
@@ -312,6 +337,6 @@ impl<
         ensures fewer { ahead input.new ≤ ahead input.old }
     {
         let (group_token, elem) = self.types().in_invisible(input, TypePlace::Plus)?;
-        Ok(self.after_group(input, group_token, elem)?)
+        self.after_group(input, group_token, elem)
     }
 }

@@ -246,7 +246,7 @@ pub(crate) fn parse_trait_object<A: Attributes, E: Value>(
     let from = input.span();
     let dyn_token = parse_optional_dyn(alloc, input)?;
     let first = read_bound::<A, E>(alloc, PhantomData, input, BoundPlace::Object)?;
-    let bounds = grammar.object_bounds(input, from, plus, first)?;
+    let bounds = grammar.object_bounds(input, from, plus, first.into_inner())?;
     Ok(bare_trait_object(alloc, dyn_token, bounds))
 }
 
@@ -282,6 +282,17 @@ pub(crate) fn parse_return_type<A: Attributes, E: Value>(
     Ok(return_of(parts))
 }
 
+/// A type in its place.
+pub(crate) fn parse_type<A: Attributes, E: Value>(
+    alloc: Global,
+    input: &mut ParseStream<'_>,
+    place: TypePlace,
+) -> Result<TypeOf<A, E>, Error>
+    ensures parses { Parses (knot.ty A.reads E.reads place) result input.old input.new }
+{
+    Ok(read_type::<A, E>(alloc, PhantomData, input, place)?.into_inner())
+}
+
 /// `a: T`
 #[tactic(auto, using(token_core::proofs::Suffixes::follows), unfolding(crate::specs::ty::Knot::named_arg, crate::specs::ty::Reading::named_arg, syn_forms::specs::inputs::Reading::plain_argument))]
 pub(crate) fn parse_named_arg<A: Attributes, E: Value>(
@@ -292,6 +303,6 @@ pub(crate) fn parse_named_arg<A: Attributes, E: Value>(
 {
     let attrs = A::read_outer(alloc, input)?;
     let name = parse_optional_name(alloc, input, false)?;
-    let ty = read_type::<A, E>(alloc, PhantomData, input, TypePlace::Plus)?;
+    let ty = parse_type::<A, E>(alloc, input, TypePlace::Plus)?;
     Ok(NamedArgOf { attrs, name, ty })
 }

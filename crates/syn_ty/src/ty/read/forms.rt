@@ -11,14 +11,14 @@ ghost use Rattle.token_core.specs.Reads.{Parses};
 
 use crate::grammar::Grammar;
 use crate::path::read::return_of;
-use crate::ty::read::parts::{bare_ptr, bare_reference, of_brackets};
+use crate::ty::read::parts::{bare_ptr, bare_reference, boxed_type, of_brackets};
 use crate::ty::{ReturnTypeOf, TypeOf, TypePtrOf, TypeReferenceOf};
 use std::alloc::Global;
 use std::marker::PhantomData;
 use syn_forms::groups::ParenContent;
 use syn_forms::places::TypePlace;
 use syn_path::supplied::{Attributes, Value};
-use token_core::{Error, ParseStream};
+use token_core::{Boxed, Error, ParseStream};
 
 impl<
     'a,
@@ -29,7 +29,7 @@ impl<
         PhantomData<TypeOf<A, E>>,
         &mut ParseStream<'_>,
         TypePlace,
-    ) -> Result<TypeOf<A, E>, Error>
+    ) -> Result<Boxed<TypeOf<A, E>>, Error>
         + Copy,
     G,
     H,
@@ -75,7 +75,10 @@ impl<
     /// A slice, or an array where a `;` follows the type.
     #[tactic(auto, using(token_core::proofs::Suffixes::follows, syn_forms::proofs::nested_laws::Ahead::later), unfolding(crate::specs::ty::Reading::slice_or_array))]
     #[inline(never)]
-    pub(crate) fn slice_or_array(&self, input: &mut ParseStream<'_>) -> Result<TypeOf<A, E>, Error>
+    pub(crate) fn slice_or_array(
+        &self,
+        input: &mut ParseStream<'_>,
+    ) -> Result<Boxed<TypeOf<A, E>>, Error>
         requires types { Nests (knot.ty A.reads E.reads) (length self.now.begin)
             (F.pre self.now.types) (F.post self.now.types) }
         requires few { ahead input.old ≤ length self.now.begin }
@@ -85,7 +88,11 @@ impl<
         ensures fewer { ahead input.new ≤ ahead input.old }
     {
         let (bracket_token, held) = self.types().slice_or_array::<E>(input, TypePlace::Plus)?;
-        Ok(of_brackets(self.alloc, bracket_token, held))
+        boxed_type(
+            self.alloc,
+            of_brackets(self.alloc, bracket_token, held),
+            input,
+        )
     }
 
     /// What parentheses hold that begin with a type.

@@ -14,7 +14,9 @@ ghost use Rattle.token_core.specs.Positions.{IsReached};
 use crate::generics::{BoundLifetimesOf, GenericParamOf, TypeParamBoundOf};
 use crate::grammar::Grammar;
 use crate::path::PathArgumentsOf;
-use crate::ty::read::parts::{FnInputs, FnPtrParts, NamedArgs, TypeTokens, bare_fn_ptr};
+use crate::ty::read::parts::{
+    FnInputs, FnPtrParts, NamedArgs, TypeTokens, bare_fn_ptr, boxed_type,
+};
 use crate::ty::read::tokens::{
     no_bound_type, parse_builtin_type, sees_bindable, sees_builtin, sees_fn_ptr, sees_unsafe_binder,
 };
@@ -50,7 +52,7 @@ impl<
         PhantomData<TypeOf<A, E>>,
         &mut ParseStream<'_>,
         TypePlace,
-    ) -> Result<TypeOf<A, E>, Error>
+    ) -> Result<Boxed<TypeOf<A, E>>, Error>
         + Copy,
     G,
     H,
@@ -121,16 +123,17 @@ impl<
         &self,
         input: &mut ParseStream<'_>,
         lifetimes: Option<BoundLifetimesOf<GenericParamOf<A, E>>>,
-    ) -> Result<TypeOf<A, E>, Error>
+    ) -> Result<Boxed<TypeOf<A, E>>, Error>
         requires types { Nests (knot.ty A.reads E.reads) (length self.now.begin)
             (F.pre self.now.types) (F.post self.now.types) }
         requires few { ahead input.old ≤ length self.now.begin }
-        ensures parses { Parses (λ s. and_then (reading.fn_ptr_after A.reads E.reads
-            (knot.reads_below A.reads E.reads (length self.now.begin)) lifetimes s)
+        ensures parses { Parses (λ s. and_then
+            (reading.fn_ptr_after A.reads E.reads (knot.reads_below A.reads E.reads (length self.now.begin)) lifetimes s)
             (λ form. pure (variants.FnPtr form))) result input.old input.new }
         ensures fewer { ahead input.new ≤ ahead input.old }
     {
-        Ok(TypeOf::FnPtr(self.fn_ptr_after(input, lifetimes)?))
+        let form = self.fn_ptr_after(input, lifetimes)?;
+        boxed_type(self.alloc, TypeOf::FnPtr(form), input)
     }
 
     /// `unsafe<'a> T`: no case holds it, so that it is held as it was written, from a position on.
@@ -141,7 +144,7 @@ impl<
         input: &mut ParseStream<'_>,
         from: &Cursor<'_>,
         place: TypePlace,
-    ) -> Result<TypeOf<A, E>, Error>
+    ) -> Result<Boxed<TypeOf<A, E>>, Error>
         requires types { Nests (knot.ty A.reads E.reads) (length self.now.begin)
             (F.pre self.now.types) (F.post self.now.types) }
         requires few { ahead input.old ≤ length self.now.begin }
@@ -155,7 +158,11 @@ impl<
         parse_angled_lifetimes(self.alloc, input)?;
         // boxed: it is dropped by one call
         self.types().boxed(input, last_place(place))?;
-        Ok(TypeOf::Verbatim(since(self.alloc, from, input)?))
+        boxed_type(
+            self.alloc,
+            TypeOf::Verbatim(since(self.alloc, from, input)?),
+            input,
+        )
     }
 }
 
@@ -168,14 +175,14 @@ impl<
         PhantomData<TypeOf<A, E>>,
         &mut ParseStream<'_>,
         TypePlace,
-    ) -> Result<TypeOf<A, E>, Error>
+    ) -> Result<Boxed<TypeOf<A, E>>, Error>
         + Copy,
     G: Fn(
         Global,
         PhantomData<TypeParamBoundOf<A, E>>,
         &mut ParseStream<'_>,
         BoundPlace,
-    ) -> Result<TypeParamBoundOf<A, E>, Error>
+    ) -> Result<Boxed<TypeParamBoundOf<A, E>>, Error>
         + Copy,
     H,
     I,
@@ -184,7 +191,7 @@ impl<
         PhantomData<PathArgumentsOf<A, E>>,
         &mut ParseStream<'_>,
         (),
-    ) -> Result<PathArgumentsOf<A, E>, Error>
+    ) -> Result<Boxed<PathArgumentsOf<A, E>>, Error>
         + Copy,
 > Grammar<'a, A, E, F, G, H, I, J> {
     /// A path, or a trait object that begins with one.
@@ -195,7 +202,7 @@ impl<
         input: &mut ParseStream<'_>,
         plus: bool,
         lifetimes: Option<BoundLifetimesOf<GenericParamOf<A, E>>>,
-    ) -> Result<TypeOf<A, E>, Error>
+    ) -> Result<Boxed<TypeOf<A, E>>, Error>
         requires types { Nests (knot.ty A.reads E.reads) (length self.now.begin)
             (F.pre self.now.types) (F.post self.now.types) }
         requires bounds { Nests (knot.bound A.reads E.reads) (length self.now.begin)
@@ -223,7 +230,7 @@ impl<
         place: TypePlace,
         from: &Cursor<'_>,
         lifetimes: Option<BoundLifetimesOf<GenericParamOf<A, E>>>,
-    ) -> Result<TypeOf<A, E>, Error>
+    ) -> Result<Boxed<TypeOf<A, E>>, Error>
         requires types { Nests (knot.ty A.reads E.reads) (length self.now.begin)
             (F.pre self.now.types) (F.post self.now.types) }
         requires bounds { Nests (knot.bound A.reads E.reads) (length self.now.begin)
@@ -259,21 +266,21 @@ impl<
         PhantomData<TypeOf<A, E>>,
         &mut ParseStream<'_>,
         TypePlace,
-    ) -> Result<TypeOf<A, E>, Error>
+    ) -> Result<Boxed<TypeOf<A, E>>, Error>
         + Copy,
     G: Fn(
         Global,
         PhantomData<TypeParamBoundOf<A, E>>,
         &mut ParseStream<'_>,
         BoundPlace,
-    ) -> Result<TypeParamBoundOf<A, E>, Error>
+    ) -> Result<Boxed<TypeParamBoundOf<A, E>>, Error>
         + Copy,
     H: Fn(
         Global,
         PhantomData<GenericParamOf<A, E>>,
         &mut ParseStream<'_>,
         ParamPlace,
-    ) -> Result<GenericParamOf<A, E>, Error>
+    ) -> Result<Boxed<GenericParamOf<A, E>>, Error>
         + Copy,
     I,
     J: Fn(
@@ -281,7 +288,7 @@ impl<
         PhantomData<PathArgumentsOf<A, E>>,
         &mut ParseStream<'_>,
         (),
-    ) -> Result<PathArgumentsOf<A, E>, Error>
+    ) -> Result<Boxed<PathArgumentsOf<A, E>>, Error>
         + Copy,
 > Grammar<'a, A, E, F, G, H, I, J> {
     /// A type after its binder: a pointer to a function, or a trait object that begins with a path.
@@ -292,7 +299,7 @@ impl<
         input: &mut ParseStream<'_>,
         place: TypePlace,
         from: &Cursor<'_>,
-    ) -> Result<TypeOf<A, E>, Error>
+    ) -> Result<Boxed<TypeOf<A, E>>, Error>
         requires types { Nests (knot.ty A.reads E.reads) (length self.now.begin)
             (F.pre self.now.types) (F.post self.now.types) }
         requires bounds { Nests (knot.bound A.reads E.reads) (length self.now.begin)

@@ -17,7 +17,8 @@ use crate::generics::{GenericParamOf, TraitBoundOf, TypeParamBoundOf};
 use crate::grammar::Grammar;
 use crate::path::PathArgumentsOf;
 use crate::ty::read::parts::{
-    any_trait, bare_impl_trait, bare_paren, bare_trait_object, bare_tuple, first_bound, object_of,
+    any_trait, bare_impl_trait, bare_paren, bare_trait_object, bare_tuple, boxed_type, first_bound,
+    object_of,
 };
 use crate::ty::read::tokens::{parse_optional_star, plus_follows};
 use crate::ty::{TypeImplTraitOf, TypeOf};
@@ -62,15 +63,15 @@ fn dyn_of<A: Attributes, E: Value>(
     dyn_token: Dyn,
     star: Option<Star>,
     bounds: Punctuated<TypeParamBoundOf<A, E>, Plus>,
-) -> Result<TypeOf<A, E>, Error>
+) -> Result<Boxed<TypeOf<A, E>>, Error>
     requires reached { IsReached (verbatim.position input.now) from.now }
     ensures reads { Reads (reading.dyn_of from.now dyn_token star bounds input.now) result input.now }
 {
     match star {
-        Some(_) => Ok(TypeOf::Verbatim(since(alloc, from, input)?)),
+        Some(_) => boxed_type(alloc, TypeOf::Verbatim(since(alloc, from, input)?), input),
         None => {
             let object = bare_trait_object(alloc, Some(dyn_token), bounds);
-            Ok(TypeOf::TraitObject(object))
+            boxed_type(alloc, TypeOf::TraitObject(object), input)
         }
     }
 }
@@ -85,7 +86,7 @@ impl<
         PhantomData<TypeParamBoundOf<A, E>>,
         &mut ParseStream<'_>,
         BoundPlace,
-    ) -> Result<TypeParamBoundOf<A, E>, Error>
+    ) -> Result<Boxed<TypeParamBoundOf<A, E>>, Error>
         + Copy,
     H,
     I,
@@ -93,7 +94,10 @@ impl<
 > Grammar<'a, A, E, F, G, H, I, J> {
     /// A bound of a trait object.
     #[tactic(auto, using(token_core::proofs::Suffixes::follows, syn_forms::proofs::nested_laws::Ahead::later))]
-    fn object_bound(&self, input: &mut ParseStream<'_>) -> Result<TypeParamBoundOf<A, E>, Error>
+    fn object_bound(
+        &self,
+        input: &mut ParseStream<'_>,
+    ) -> Result<Boxed<TypeParamBoundOf<A, E>>, Error>
         requires bounds { Nests (knot.bound A.reads E.reads) (length self.now.begin)
             (G.pre self.now.bounds) (G.post self.now.bounds) }
         requires few { ahead input.old < length self.now.begin }
@@ -101,7 +105,7 @@ impl<
             result input.old input.new }
         ensures fewer { ahead input.new ≤ ahead input.old }
     {
-        self.bounds().value(input, BoundPlace::Object)
+        self.bounds().boxed(input, BoundPlace::Object)
     }
 
     /// The bounds of a trait object after the first: several where a `+` may follow.
@@ -175,7 +179,7 @@ impl<
         &self,
         input: &mut ParseStream<'_>,
         plus: bool,
-    ) -> Result<TypeOf<A, E>, Error>
+    ) -> Result<Boxed<TypeOf<A, E>>, Error>
         requires bounds { Nests (knot.bound A.reads E.reads) (length self.now.begin)
             (G.pre self.now.bounds) (G.post self.now.bounds) }
         requires few { ahead input.old ≤ length self.now.begin }
@@ -188,7 +192,7 @@ impl<
         let dyn_token = parse_dyn(self.alloc, input)?;
         let star = parse_optional_star(self.alloc, input)?;
         let first = self.object_bound(input)?;
-        let bounds = self.object_bounds(input, from, plus, first)?;
+        let bounds = self.object_bounds(input, from, plus, first.into_inner())?;
         dyn_of(self.alloc, input, &at, dyn_token, star, bounds)
     }
 
@@ -256,7 +260,7 @@ impl<
         &self,
         input: &mut ParseStream<'_>,
         first: TypeParamBoundOf<A, E>,
-    ) -> Result<TypeOf<A, E>, Error>
+    ) -> Result<Boxed<TypeOf<A, E>>, Error>
         requires bounds { Nests (knot.bound A.reads E.reads) (length self.now.begin)
             (G.pre self.now.bounds) (G.post self.now.bounds) }
         requires few { ahead input.old ≤ length self.now.begin }
@@ -268,7 +272,7 @@ impl<
         let bounds = self
             .bounds()
             .list_from(input, BoundPlace::Object, EachBound, first)?;
-        Ok(object_of(self.alloc, bounds))
+        boxed_type(self.alloc, object_of(self.alloc, bounds), input)
     }
 
     /// A type in parentheses; where a `+` may follow and does, it is the first bound of a trait object if it may be one.
@@ -279,7 +283,7 @@ impl<
         plus: bool,
         paren_token: Paren,
         elem: Boxed<TypeOf<A, E>>,
-    ) -> Result<TypeOf<A, E>, Error>
+    ) -> Result<Boxed<TypeOf<A, E>>, Error>
         requires bounds { Nests (knot.bound A.reads E.reads) (length self.now.begin)
             (G.pre self.now.bounds) (G.post self.now.bounds) }
         requires few { ahead input.old ≤ length self.now.begin }
@@ -289,13 +293,21 @@ impl<
         ensures fewer { ahead input.new ≤ ahead input.old }
     {
         if !plus_follows(input, plus) {
-            return Ok(TypeOf::Paren(bare_paren(self.alloc, (paren_token, elem))));
+            return boxed_type(
+                self.alloc,
+                TypeOf::Paren(bare_paren(self.alloc, (paren_token, elem))),
+                input,
+            );
         }
         match first_bound(paren_token, elem.into_inner()) {
             Ok(first) => self.object_from(input, first),
             Err(ty) => {
                 let elem = Boxed::new(self.alloc, ty)?;
-                Ok(TypeOf::Paren(bare_paren(self.alloc, (paren_token, elem))))
+                boxed_type(
+                    self.alloc,
+                    TypeOf::Paren(bare_paren(self.alloc, (paren_token, elem))),
+                    input,
+                )
             }
         }
     }
@@ -313,7 +325,7 @@ impl<
             Punctuated<TypeParamBoundOf<A, E>, Plus>,
             TraitBoundOf<A, E>,
         >,
-    ) -> Result<TypeOf<A, E>, Error>
+    ) -> Result<Boxed<TypeOf<A, E>>, Error>
         requires bounds { Nests (knot.bound A.reads E.reads) (length self.now.begin)
             (G.pre self.now.bounds) (G.post self.now.bounds) }
         requires few { ahead input.old ≤ length self.now.begin }
@@ -324,11 +336,19 @@ impl<
     {
         match held {
             ParenContent::Elements(elems) => {
-                Ok(TypeOf::Tuple(bare_tuple(self.alloc, (paren_token, elems))))
+                boxed_type(
+                    self.alloc,
+                    TypeOf::Tuple(bare_tuple(self.alloc, (paren_token, elems))),
+                    input,
+                )
             }
             ParenContent::Object(bounds) => {
                 let elem = Boxed::new(self.alloc, object_of(self.alloc, bounds))?;
-                Ok(TypeOf::Paren(bare_paren(self.alloc, (paren_token, elem))))
+                boxed_type(
+                    self.alloc,
+                    TypeOf::Paren(bare_paren(self.alloc, (paren_token, elem))),
+                    input,
+                )
             }
             ParenContent::Asked(bound) => {
                 let first = TypeParamBoundOf::Trait(held_bound(paren_token, bound));
@@ -348,21 +368,21 @@ impl<
         PhantomData<TypeOf<A, E>>,
         &mut ParseStream<'_>,
         TypePlace,
-    ) -> Result<TypeOf<A, E>, Error>
+    ) -> Result<Boxed<TypeOf<A, E>>, Error>
         + Copy,
     G: Fn(
         Global,
         PhantomData<TypeParamBoundOf<A, E>>,
         &mut ParseStream<'_>,
         BoundPlace,
-    ) -> Result<TypeParamBoundOf<A, E>, Error>
+    ) -> Result<Boxed<TypeParamBoundOf<A, E>>, Error>
         + Copy,
     H: Fn(
         Global,
         PhantomData<GenericParamOf<A, E>>,
         &mut ParseStream<'_>,
         ParamPlace,
-    ) -> Result<GenericParamOf<A, E>, Error>
+    ) -> Result<Boxed<GenericParamOf<A, E>>, Error>
         + Copy,
     I,
     J: Fn(
@@ -370,7 +390,7 @@ impl<
         PhantomData<PathArgumentsOf<A, E>>,
         &mut ParseStream<'_>,
         (),
-    ) -> Result<PathArgumentsOf<A, E>, Error>
+    ) -> Result<Boxed<PathArgumentsOf<A, E>>, Error>
         + Copy,
 > Grammar<'a, A, E, F, G, H, I, J> {
     // ---- parentheses
@@ -450,7 +470,7 @@ impl<
         &self,
         input: &mut ParseStream<'_>,
         plus: bool,
-    ) -> Result<TypeOf<A, E>, Error>
+    ) -> Result<Boxed<TypeOf<A, E>>, Error>
         requires types { Nests (knot.ty A.reads E.reads) (length self.now.begin)
             (F.pre self.now.types) (F.post self.now.types) }
         requires bounds { Nests (knot.bound A.reads E.reads) (length self.now.begin)
@@ -465,6 +485,6 @@ impl<
         ensures fewer { ahead input.new ≤ ahead input.old }
     {
         let (paren_token, held) = self.parens(input)?;
-        Ok(self.of_parens(input, plus, paren_token, held)?)
+        self.of_parens(input, plus, paren_token, held)
     }
 }

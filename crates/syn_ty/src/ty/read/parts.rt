@@ -8,6 +8,7 @@ ghost use Rattle.syn_ty.specs.declared.ty.TypeOf.TheVariants as variants;
 ghost use Rattle.syn_ty.specs.declared.ty.TypePathOf.{out-TypePathOf};
 ghost use Rattle.syn_ty.specs.ty.Reading as reading;
 ghost use Rattle.syn_ty.specs.ty.Types as types;
+ghost use Rattle.token_core.specs.Reads.{Reads, pure};
 
 use crate::generics::read::{held_bound, named_bound};
 use crate::generics::{BoundLifetimesOf, GenericParamOf, TypeParamBoundOf};
@@ -29,7 +30,9 @@ use token_core::token::{
     And, Bracket, Colon, Comma, Dyn, Extern, Fn, GroupToken, Gt, Impl, Lt, Mut, Paren, Plus, Semi,
     Star, Unsafe,
 };
-use token_core::{Boxed, Ident, Items, Lifetime, LitStr, Punctuated, TokenStream};
+use token_core::{
+    Boxed, Error, Ident, Items, Lifetime, LitStr, ParseStream, Punctuated, TokenStream,
+};
 
 // ---- forms by their parts, without attributes
 
@@ -451,4 +454,19 @@ pub(crate) fn qself_in<A: Attributes, E: Value>(
         as_token: None,
         gt_token: Gt { spans: [span] },
     })
+}
+
+// ---- on the heap
+
+/// A type on the heap: a read of no token, which is refused for want of memory alone. It stays out of line, so that what reads
+/// a type within a type keeps no room for it.
+#[inline(never)]
+pub(crate) fn boxed_type<A: Attributes, E: Value>(
+    alloc: Global,
+    ty: TypeOf<A, E>,
+    input: &ParseStream<'_>,
+) -> Result<Boxed<TypeOf<A, E>>, Error>
+    ensures reads { Reads (pure ty input.now) result input.now }
+{
+    Ok(Boxed::new(alloc, ty)?)
 }

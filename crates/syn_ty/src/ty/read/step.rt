@@ -12,14 +12,14 @@ use crate::generics::{GenericParamOf, TypeParamBoundOf};
 use crate::grammar::Grammar;
 use crate::path::PathArgumentsOf;
 use crate::ty::TypeOf;
-use crate::ty::read::parts::object_of;
+use crate::ty::read::parts::{boxed_type, object_of};
 use crate::ty::read::tokens::{begins_named, no_type, parse_infer, parse_never};
 use std::alloc::Global;
 use std::marker::PhantomData;
 use syn_forms::places::{BoundPlace, ParamPlace, TypePlace};
 use syn_path::supplied::{Attributes, Value};
 use token_core::token::{And, Bracket, Dyn, For, GroupToken, Impl, Not, Paren, Star, Underscore};
-use token_core::{Cursor, Error, Lifetime, ParseStream};
+use token_core::{Boxed, Cursor, Error, Lifetime, ParseStream};
 
 impl<
     'a,
@@ -31,7 +31,7 @@ impl<
         PhantomData<TypeParamBoundOf<A, E>>,
         &mut ParseStream<'_>,
         BoundPlace,
-    ) -> Result<TypeParamBoundOf<A, E>, Error>
+    ) -> Result<Boxed<TypeParamBoundOf<A, E>>, Error>
         + Copy,
     H,
     I,
@@ -44,7 +44,7 @@ impl<
         &self,
         input: &mut ParseStream<'_>,
         plus: bool,
-    ) -> Result<TypeOf<A, E>, Error>
+    ) -> Result<Boxed<TypeOf<A, E>>, Error>
         requires bounds { Nests (knot.bound A.reads E.reads) (length self.now.begin)
             (G.pre self.now.bounds) (G.post self.now.bounds) }
         requires few { ahead input.old ≤ length self.now.begin }
@@ -54,17 +54,29 @@ impl<
         ensures fewer { ahead input.new ≤ ahead input.old }
     {
         if input.peek::<Not>() {
-            return Ok(TypeOf::Never(parse_never(self.alloc, input)?));
+            return boxed_type(
+                self.alloc,
+                TypeOf::Never(parse_never(self.alloc, input)?),
+                input,
+            );
         }
         if input.peek::<Impl>() {
-            return Ok(TypeOf::ImplTrait(self.impl_trait(input, plus)?));
+            return boxed_type(
+                self.alloc,
+                TypeOf::ImplTrait(self.impl_trait(input, plus)?),
+                input,
+            );
         }
         if input.peek::<Underscore>() {
-            return Ok(TypeOf::Infer(parse_infer(self.alloc, input)?));
+            return boxed_type(
+                self.alloc,
+                TypeOf::Infer(parse_infer(self.alloc, input)?),
+                input,
+            );
         }
         if input.peek::<Lifetime>() {
             let bounds = self.lifetime_object(input)?;
-            return Ok(object_of(self.alloc, bounds));
+            return boxed_type(self.alloc, object_of(self.alloc, bounds), input);
         }
         Err(no_type(self.alloc, input))
     }
@@ -79,14 +91,14 @@ impl<
         PhantomData<TypeOf<A, E>>,
         &mut ParseStream<'_>,
         TypePlace,
-    ) -> Result<TypeOf<A, E>, Error>
+    ) -> Result<Boxed<TypeOf<A, E>>, Error>
         + Copy,
     G: Fn(
         Global,
         PhantomData<TypeParamBoundOf<A, E>>,
         &mut ParseStream<'_>,
         BoundPlace,
-    ) -> Result<TypeParamBoundOf<A, E>, Error>
+    ) -> Result<Boxed<TypeParamBoundOf<A, E>>, Error>
         + Copy,
     H,
     I,
@@ -99,7 +111,7 @@ impl<
         &self,
         input: &mut ParseStream<'_>,
         plus: bool,
-    ) -> Result<TypeOf<A, E>, Error>
+    ) -> Result<Boxed<TypeOf<A, E>>, Error>
         requires types { Nests (knot.ty A.reads E.reads) (length self.now.begin)
             (F.pre self.now.types) (F.post self.now.types) }
         requires bounds { Nests (knot.bound A.reads E.reads) (length self.now.begin)
@@ -117,10 +129,10 @@ impl<
             return self.slice_or_array(input);
         }
         if input.peek::<Star>() {
-            return Ok(TypeOf::Ptr(self.ptr(input)?));
+            return boxed_type(self.alloc, TypeOf::Ptr(self.ptr(input)?), input);
         }
         if input.peek::<And>() {
-            return Ok(TypeOf::Reference(self.reference(input)?));
+            return boxed_type(self.alloc, TypeOf::Reference(self.reference(input)?), input);
         }
         self.by_last_tokens(input, plus)
     }
@@ -135,21 +147,21 @@ impl<
         PhantomData<TypeOf<A, E>>,
         &mut ParseStream<'_>,
         TypePlace,
-    ) -> Result<TypeOf<A, E>, Error>
+    ) -> Result<Boxed<TypeOf<A, E>>, Error>
         + Copy,
     G: Fn(
         Global,
         PhantomData<TypeParamBoundOf<A, E>>,
         &mut ParseStream<'_>,
         BoundPlace,
-    ) -> Result<TypeParamBoundOf<A, E>, Error>
+    ) -> Result<Boxed<TypeParamBoundOf<A, E>>, Error>
         + Copy,
     H: Fn(
         Global,
         PhantomData<GenericParamOf<A, E>>,
         &mut ParseStream<'_>,
         ParamPlace,
-    ) -> Result<GenericParamOf<A, E>, Error>
+    ) -> Result<Boxed<GenericParamOf<A, E>>, Error>
         + Copy,
     I,
     J: Fn(
@@ -157,7 +169,7 @@ impl<
         PhantomData<PathArgumentsOf<A, E>>,
         &mut ParseStream<'_>,
         (),
-    ) -> Result<PathArgumentsOf<A, E>, Error>
+    ) -> Result<Boxed<PathArgumentsOf<A, E>>, Error>
         + Copy,
 > Grammar<'a, A, E, F, G, H, I, J> {
     /// A type without a binder.
@@ -167,7 +179,7 @@ impl<
         input: &mut ParseStream<'_>,
         place: TypePlace,
         from: &Cursor<'_>,
-    ) -> Result<TypeOf<A, E>, Error>
+    ) -> Result<Boxed<TypeOf<A, E>>, Error>
         requires types { Nests (knot.ty A.reads E.reads) (length self.now.begin)
             (F.pre self.now.types) (F.post self.now.types) }
         requires bounds { Nests (knot.bound A.reads E.reads) (length self.now.begin)
@@ -202,7 +214,7 @@ impl<
         &self,
         input: &mut ParseStream<'_>,
         place: TypePlace,
-    ) -> Result<TypeOf<A, E>, Error>
+    ) -> Result<Boxed<TypeOf<A, E>>, Error>
         requires types { Nests (knot.ty A.reads E.reads) (length self.now.begin)
             (F.pre self.now.types) (F.post self.now.types) }
         requires bounds { Nests (knot.bound A.reads E.reads) (length self.now.begin)

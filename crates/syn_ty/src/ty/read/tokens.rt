@@ -12,17 +12,21 @@ ghost use Rattle.token_core.specs.Reads.{Parses, any_text, forked, ident_name, s
 ghost use Rattle.token_core.specs.Refusal.{Made};
 ghost use Rattle.token_core.specs.TokenNames.{ident_number};
 
+use crate::ty::read::parts::boxed_type;
 use crate::ty::{Abi, TypeInferOf, TypeMacroOf, TypeNeverOf, TypeOf};
 use std::alloc::Global;
 use syn_forms::heads;
 use syn_forms::verbatim::since;
 use syn_path::mac::parse_macro;
 use syn_path::path::begins_mod_segment;
+use syn_path::supplied::{Attributes, Value};
 use token_core::token::{
     And, Bracket, Crate, Dyn, Extern, Fn, For, Impl, Lt, Ne, Not, Paren, PathSep, Plus, Pound,
     SelfType, SelfValue, Star, Super, Underscore, Unsafe,
 };
-use token_core::{Cursor, Delimiter, Error, Ident, Items, Lifetime, LitStr, ParseStream, Token};
+use token_core::{
+    Boxed, Cursor, Delimiter, Error, Ident, Items, Lifetime, LitStr, ParseStream, Token,
+};
 
 /// Any identifier, keywords too, as a token that is tested for (syn's `Ident::peek_any`).
 struct AnyIdent;
@@ -231,16 +235,16 @@ fn parse_builtin(alloc: Global, input: &mut ParseStream<'_>) -> Result<(), Error
 /// What `builtin #` begins, held as it was written from a position on.
 #[tactic(auto, using(token_core::proofs::Suffixes::follows, syn_forms::proofs::verbatim_laws::Reached::later))]
 #[inline(never)]
-pub(crate) fn parse_builtin_type<A, E>(
+pub(crate) fn parse_builtin_type<A: Attributes, E: Value>(
     alloc: Global,
     input: &mut ParseStream<'_>,
     from: &Cursor<'_>,
-) -> Result<TypeOf<A, E>, Error>
+) -> Result<Boxed<TypeOf<A, E>>, Error>
     requires reached { IsReached (verbatim.position input.old) from.now }
     ensures parses { Parses (reading.builtin_type from.now) result input.old input.new }
 {
     parse_builtin(alloc, input)?;
-    Ok(TypeOf::Verbatim(since(alloc, from, input)?))
+    boxed_type(alloc, TypeOf::Verbatim(since(alloc, from, input)?), input)
 }
 
 // ---- refusals

@@ -1,15 +1,16 @@
-use Rattle.std.proofs.Common.{true, false, Ok, refl, sym, ap, arith}
+use Rattle.std.proofs.Common.{true, false, length, refl, sym, ap, ◌∙◌, arith}
 use Rattle.token_core.proofs.Suffixes.{follows_trans}
 use Rattle.token_core.proofs.Steps.{chosen, link}
-use Rattle.syn_forms.specs.declared.groups.ParenContent.TheVariants.{One}
-use Rattle.syn_forms.proofs.lists_laws.Turns.{no_memory, passed_on, stopped}
+use Rattle.syn_forms.specs.lists.Reading.{more_elements}
+use Rattle.syn_forms.specs.nested.Below.{held}
+use Rattle.syn_forms.proofs.lists_laws.Turns.{passed_on, stopped}
 use Rattle.syn_forms.proofs.nested.Nested.type_or_elements.Goals as goal
 
-pub value-requires-clause-nests : goal.value-requires-clause-nests
-value-requires-clause-nests g c = c.requires.nests
+pub boxed-requires-clause-nests : goal.boxed-requires-clause-nests
+boxed-requires-clause-nests g c = c.requires.nests
 
-pub value-requires-clause-few : goal.value-requires-clause-few
-value-requires-clause-few g c = c.requires.few
+pub boxed-requires-clause-few : goal.boxed-requires-clause-few
+boxed-requires-clause-few g c = c.requires.few
 
 pub returns-in_err-value : goal.returns-in_err-value
 returns-in_err-value g c =
@@ -17,7 +18,7 @@ returns-in_err-value g c =
     record {
       parses = (
         passed_on _ _ _ _ e c.from_residual.ensures c.in_err-value.ensures.parses.0 (λ h. stopped _ e h),
-        c.value.ensures.parses.1,
+        c.boxed.ensures.parses.1,
       );
     }
 
@@ -27,36 +28,35 @@ more_elements-requires-clause-nests g c = c.requires.nests
 pub more_elements-requires-clause-few : goal.more_elements-requires-clause-few
 more_elements-requires-clause-few g c =
     let few = c.requires.few in
-    let le = c.value.ensures.fewer in
+    let le = c.boxed.ensures.fewer in
     omega (arith, few, le)
 
-pub returns-in_err-more_elements : goal.returns-in_err-more_elements
-returns-in_err-more_elements g c =
-    let e = c.in_err-more_elements.field-0.0 in
+pub returns-in_err-elems : goal.returns-in_err-elems
+returns-in_err-elems g c =
+    let e = c.in_err-elems.field-0.0 in
+    let same = ap (λ z. more_elements (held g.T.Tree.read (length c.args.self.now.begin) c.args.place) z c.boxed.new.input) (sym c.into_inner.ensures) in
     record {
       parses = (
-        passed_on _ _ _ _ e c.from_residual-in_err-more_elements.ensures c.in_err-more_elements.ensures.parses.0 (λ h. link _ c.in_ok-value.ensures.parses.0 (chosen _ true _ _ _ _ (sym c.if-peek.ensures) (stopped _ e h))),
-        follows_trans _ _ _ c.value.ensures.parses.1 c.more_elements.ensures.parses.1,
+        passed_on _ _ _ _ e c.from_residual-in_err-elems.ensures c.in_err-elems.ensures.parses.0 (λ h. link _ c.in_ok-value.ensures.parses.0 (chosen _ true _ _ _ _ (sym c.if-peek.ensures) (stopped _ e (same ∙ h)))),
+        follows_trans _ _ _ c.boxed.ensures.parses.1 c.more_elements.ensures.parses.1,
       );
     }
 
 pub returns-then-peek : goal.returns-then-peek
 returns-then-peek g c =
+    let same = ap (λ z. more_elements (held g.T.Tree.read (length c.args.self.now.begin) c.args.place) z c.boxed.new.input) (sym c.into_inner.ensures) in
     record {
       parses = (
-        link _ c.in_ok-value.ensures.parses.0 (chosen _ true _ _ _ _ (sym c.if-peek.ensures) (link _ c.in_ok-more_elements.ensures.parses.0 refl)),
-        follows_trans _ _ _ c.value.ensures.parses.1 c.more_elements.ensures.parses.1,
+        link _ c.in_ok-value.ensures.parses.0 (chosen _ true _ _ _ _ (sym c.if-peek.ensures) (link _ (same ∙ c.in_ok-elems.ensures.parses.0) refl)),
+        follows_trans _ _ _ c.boxed.ensures.parses.1 c.more_elements.ensures.parses.1,
       );
     }
-
-pub returns-in_err-new : goal.returns-in_err-new
-returns-in_err-new g c = record { parses = (no_memory _ _ _ c.from_residual-in_err-new.ensures, c.value.ensures.parses.1) }
 
 pub returns : goal.returns
 returns g c =
     record {
       parses = (
-        link _ c.in_ok-value.ensures.parses.0 (chosen _ false _ _ _ _ (sym c.if-peek.ensures) (ap (λ z. Ok (One z, c.value.new.input)) (sym c.in_ok-new.ensures))),
-        c.value.ensures.parses.1,
+        link _ c.in_ok-value.ensures.parses.0 (chosen _ false _ _ _ _ (sym c.if-peek.ensures) refl),
+        c.boxed.ensures.parses.1,
       );
     }

@@ -1,5 +1,6 @@
-use Rattle.std.proofs.Common.{refl, arith}
+use Rattle.std.proofs.Common.{Ok, sym, ap, arith}
 use Rattle.syn_generics.specs.generics.Declared.{type_after}
+use Rattle.syn_generics.specs.generics.Params.{predicate_type_of}
 use Rattle.token_core.proofs.Suffixes.{follows_trans}
 use Rattle.token_core.proofs.Steps.{link}
 use Rattle.syn_forms.proofs.lists_laws.Turns.{passed_on, stopped}
@@ -57,7 +58,7 @@ unfolding type_after
 returns g c =
     record {
       parses = (
-        link _ c.in_ok-lifetimes.ensures.parses.0 (link _ c.in_ok-bounded_ty.ensures.parses.0 (link _ c.in_ok-colon_token.ensures.parses.0 (link _ c.in_ok-bounds.ensures.parses.0 refl))),
+        link _ c.in_ok-lifetimes.ensures.parses.0 (link _ c.in_ok-bounded_ty.ensures.parses.0 (link _ c.in_ok-colon_token.ensures.parses.0 (link _ c.in_ok-bounds.ensures.parses.0 (ap (λ z. Ok (predicate_type_of c.args.attrs c.in_ok-lifetimes.lifetimes z c.in_ok-colon_token.colon_token c.in_ok-bounds.bounds, c.predicate_bounds.new.input)) (sym c.into_inner.ensures))))),
         follows_trans _ _ _ c.optional_binder_from.ensures.parses.1 (follows_trans _ _ _ c.read_type.ensures.parses.1 (follows_trans _ _ _ c.parse_colon.ensures.parses.1 c.predicate_bounds.ensures.parses.1)),
       );
     }

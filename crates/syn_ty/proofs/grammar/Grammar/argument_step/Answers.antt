@@ -15,7 +15,7 @@ returns-in_err-lifetime g c =
 pub returns-then-peek_lone_lifetime : goal.returns-then-peek_lone_lifetime
 unfolding argument_step
 returns-then-peek_lone_lifetime g c =
-    record { parses = (chosen _ true _ _ _ _ (sym c.if-peek_lone_lifetime.ensures) (link _ c.in_ok-lifetime.ensures.parses.0 refl), c.parse_any_lifetime.ensures.parses.1) }
+    record { parses = (told_by _ _ (chosen _ true _ _ _ _ (sym c.if-peek_lone_lifetime.ensures) (link _ c.in_ok-lifetime.ensures.parses.0 refl)) c.boxed_argument.ensures.reads, c.parse_any_lifetime.ensures.parses.1) }
 
 pub returns-in_err-value : goal.returns-in_err-value
 unfolding argument_step
@@ -26,7 +26,7 @@ returns-in_err-value g c =
 pub returns-then-peek_const : goal.returns-then-peek_const
 unfolding argument_step
 returns-then-peek_const g c =
-    record { parses = (chosen _ false _ _ _ _ (sym c.if-peek_lone_lifetime.ensures) (chosen _ true _ _ _ _ (sym c.if-peek_const.ensures) (link _ c.in_ok-value.ensures.reads refl)), c.read_const_argument.ensures.within) }
+    record { parses = (told_by _ _ (chosen _ false _ _ _ _ (sym c.if-peek_lone_lifetime.ensures) (chosen _ true _ _ _ _ (sym c.if-peek_const.ensures) (link _ c.in_ok-value.ensures.reads refl))) c.boxed_argument-then-peek_const.ensures.reads, c.read_const_argument.ensures.within) }
 
 pub returns-in_err-ty : goal.returns-in_err-ty
 unfolding argument_step

@@ -1,7 +1,7 @@
 use Rattle.std.proofs.Common.{Ok, Err, true, false, refl, sym, ap}
 use Rattle.token_core.proofs.Suffixes.{follows_self}
 use Rattle.token_core.proofs.Steps.{chosen, link}
-use Rattle.syn_forms.proofs.lists_laws.Turns.{passed_on, stopped}
+use Rattle.syn_forms.proofs.lists_laws.Turns.{passed_on, stopped, told_by}
 use Rattle.syn_forms.proofs.nested_laws.Ahead.{ahead_follows}
 use Rattle.syn_ty.specs.ty.Reading.{by_last_tokens}
 use Rattle.syn_ty.proofs.grammar.Grammar.by_last_tokens.Goals as goal
@@ -17,7 +17,7 @@ returns-in_err-parse_never-clause-fewer g c = ahead_follows _ _ c.parse_never.en
 
 pub returns-then-peek-clause-parses : goal.returns-then-peek-clause-parses
 unfolding by_last_tokens
-returns-then-peek-clause-parses g c = (chosen _ true _ _ _ _ (sym c.if-peek.ensures) (link _ c.in_ok-parse_never.ensures.parses.0 refl), c.parse_never.ensures.parses.1)
+returns-then-peek-clause-parses g c = (told_by _ _ (chosen _ true _ _ _ _ (sym c.if-peek.ensures) (link _ c.in_ok-parse_never.ensures.parses.0 refl)) c.boxed_type.ensures.reads, c.parse_never.ensures.parses.1)
 
 pub returns-then-peek-clause-fewer : goal.returns-then-peek-clause-fewer
 returns-then-peek-clause-fewer g c = ahead_follows _ _ c.parse_never.ensures.parses.1
@@ -30,7 +30,7 @@ returns-in_err-impl_trait-clause-parses g c =
 
 pub returns-then-peek-2-clause-parses : goal.returns-then-peek-2-clause-parses
 unfolding by_last_tokens
-returns-then-peek-2-clause-parses g c = (chosen _ false _ _ _ _ (sym c.if-peek.ensures) (chosen _ true _ _ _ _ (sym c.if-peek-2.ensures) (link _ c.in_ok-impl_trait.ensures.parses.0 refl)), c.impl_trait.ensures.parses.1)
+returns-then-peek-2-clause-parses g c = (told_by _ _ (chosen _ false _ _ _ _ (sym c.if-peek.ensures) (chosen _ true _ _ _ _ (sym c.if-peek-2.ensures) (link _ c.in_ok-impl_trait.ensures.parses.0 refl))) c.boxed_type-then-peek-2.ensures.reads, c.impl_trait.ensures.parses.1)
 
 pub returns-in_err-parse_infer-clause-parses : goal.returns-in_err-parse_infer-clause-parses
 unfolding by_last_tokens
@@ -43,7 +43,7 @@ returns-in_err-parse_infer-clause-fewer g c = ahead_follows _ _ c.parse_infer.en
 
 pub returns-then-peek-3-clause-parses : goal.returns-then-peek-3-clause-parses
 unfolding by_last_tokens
-returns-then-peek-3-clause-parses g c = (chosen _ false _ _ _ _ (sym c.if-peek.ensures) (chosen _ false _ _ _ _ (sym c.if-peek-2.ensures) (chosen _ true _ _ _ _ (sym c.if-peek-3.ensures) (link _ c.in_ok-parse_infer.ensures.parses.0 refl))), c.parse_infer.ensures.parses.1)
+returns-then-peek-3-clause-parses g c = (told_by _ _ (chosen _ false _ _ _ _ (sym c.if-peek.ensures) (chosen _ false _ _ _ _ (sym c.if-peek-2.ensures) (chosen _ true _ _ _ _ (sym c.if-peek-3.ensures) (link _ c.in_ok-parse_infer.ensures.parses.0 refl)))) c.boxed_type-then-peek-3.ensures.reads, c.parse_infer.ensures.parses.1)
 
 pub returns-then-peek-3-clause-fewer : goal.returns-then-peek-3-clause-fewer
 returns-then-peek-3-clause-fewer g c = ahead_follows _ _ c.parse_infer.ensures.parses.1
@@ -56,7 +56,7 @@ returns-in_err-bounds-clause-parses g c =
 
 pub returns-then-peek-4-clause-parses : goal.returns-then-peek-4-clause-parses
 unfolding by_last_tokens
-returns-then-peek-4-clause-parses g c = (chosen _ false _ _ _ _ (sym c.if-peek.ensures) (chosen _ false _ _ _ _ (sym c.if-peek-2.ensures) (chosen _ false _ _ _ _ (sym c.if-peek-3.ensures) (chosen _ true _ _ _ _ (sym c.if-peek-4.ensures) (link _ c.in_ok-bounds.ensures.parses.0 (ap (λ z. Ok (z, c.lifetime_object.new.input)) (sym c.object_of.ensures)))))), c.lifetime_object.ensures.parses.1)
+returns-then-peek-4-clause-parses g c = (told_by _ _ (chosen _ false _ _ _ _ (sym c.if-peek.ensures) (chosen _ false _ _ _ _ (sym c.if-peek-2.ensures) (chosen _ false _ _ _ _ (sym c.if-peek-3.ensures) (chosen _ true _ _ _ _ (sym c.if-peek-4.ensures) (link _ c.in_ok-bounds.ensures.parses.0 (ap (λ z. Ok (z, c.lifetime_object.new.input)) (sym c.object_of.ensures))))))) c.boxed_type-then-peek-4.ensures.reads, c.lifetime_object.ensures.parses.1)
 
 pub returns-clause-parses : goal.returns-clause-parses
 unfolding by_last_tokens

@@ -1,6 +1,6 @@
 use Rattle.std.proofs.Common.{true, false, length, refl, sym}
 use Rattle.token_core.proofs.Steps.{chosen, link}
-use Rattle.syn_forms.proofs.lists_laws.Turns.{passed_on, stopped}
+use Rattle.syn_forms.proofs.lists_laws.Turns.{passed_on, stopped, told_by}
 use Rattle.syn_ty.proofs.ty_laws.Steps.{as_told, token_bracket, token_dyn, token_last}
 use Rattle.syn_ty.specs.ty.Reading.{by_token}
 use Rattle.syn_ty.specs.ty.Knot as knot
@@ -29,7 +29,7 @@ returns-in_err-ptr-clause-parses g c =
 
 pub returns-then-peek-3-clause-parses : goal.returns-then-peek-3-clause-parses
 unfolding by_token
-returns-then-peek-3-clause-parses g c = (chosen _ false _ _ _ _ (sym c.if-peek.ensures) (chosen _ false _ _ _ _ (sym c.if-peek-2.ensures) (chosen _ true _ _ _ _ (sym c.if-peek-3.ensures) (link _ c.in_ok-ptr.ensures.parses.0 refl))), c.ptr.ensures.parses.1)
+returns-then-peek-3-clause-parses g c = (told_by _ _ (chosen _ false _ _ _ _ (sym c.if-peek.ensures) (chosen _ false _ _ _ _ (sym c.if-peek-2.ensures) (chosen _ true _ _ _ _ (sym c.if-peek-3.ensures) (link _ c.in_ok-ptr.ensures.parses.0 refl)))) c.boxed_type.ensures.reads, c.ptr.ensures.parses.1)
 
 pub returns-in_err-reference-clause-parses : goal.returns-in_err-reference-clause-parses
 unfolding by_token
@@ -39,4 +39,4 @@ returns-in_err-reference-clause-parses g c =
 
 pub returns-then-peek-4-clause-parses : goal.returns-then-peek-4-clause-parses
 unfolding by_token
-returns-then-peek-4-clause-parses g c = (chosen _ false _ _ _ _ (sym c.if-peek.ensures) (chosen _ false _ _ _ _ (sym c.if-peek-2.ensures) (chosen _ false _ _ _ _ (sym c.if-peek-3.ensures) (chosen _ true _ _ _ _ (sym c.if-peek-4.ensures) (link _ c.in_ok-reference.ensures.parses.0 refl)))), c.reference.ensures.parses.1)
+returns-then-peek-4-clause-parses g c = (told_by _ _ (chosen _ false _ _ _ _ (sym c.if-peek.ensures) (chosen _ false _ _ _ _ (sym c.if-peek-2.ensures) (chosen _ false _ _ _ _ (sym c.if-peek-3.ensures) (chosen _ true _ _ _ _ (sym c.if-peek-4.ensures) (link _ c.in_ok-reference.ensures.parses.0 refl))))) c.boxed_type-then-peek-4.ensures.reads, c.reference.ensures.parses.1)

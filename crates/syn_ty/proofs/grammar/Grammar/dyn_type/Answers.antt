@@ -1,4 +1,4 @@
-use Rattle.std.proofs.Common.{length, sym, subst, arith}
+use Rattle.std.proofs.Common.{length, sym, ap, subst, ◌∙◌, arith}
 use Rattle.token_core.proofs.Suffixes.{follows_trans}
 use Rattle.token_core.proofs.Steps.{link}
 use Rattle.token_core.specs.Positions.{IsReached}
@@ -7,7 +7,7 @@ use Rattle.syn_forms.specs.verbatim.Reading.{position}
 use Rattle.syn_forms.proofs.lists_laws.Turns.{passed_on, stopped, told_by}
 use Rattle.syn_forms.proofs.nested_laws.Ahead.{ahead_follows}
 use Rattle.syn_ty.proofs.ty_laws.Steps.{dyn_refused, dyn_told}
-use Rattle.syn_ty.specs.ty.Reading.{dyn_type}
+use Rattle.syn_ty.specs.ty.Reading.{dyn_type, object_bounds}
 use Rattle.syn_ty.specs.ty.Knot as knot
 use Rattle.syn_ty.proofs.grammar.Grammar.dyn_type.Goals as goal
 
@@ -55,7 +55,8 @@ pub returns-in_err-bounds-clause-parses : goal.returns-in_err-bounds-clause-pars
 returns-in_err-bounds-clause-parses g c =
     let e = c.in_err-bounds.field-0.0 in
     let r = knot.reads_below g.A.Attributes.reads g.E.Value.reads (length c.args.self.now.begin) in
-    (passed_on _ _ _ _ e c.from_residual-in_err-bounds.ensures c.in_err-bounds.ensures.parses.0 (λ h. dyn_refused r c.args.plus c.span-from.result c.args.input.now _ _ _ _ _ _ c.span-from.ensures c.in_ok-dyn_token.ensures.parses.0 c.in_ok-star.ensures.parses.0 c.in_ok-first.ensures.parses.0 e h), follows_trans _ _ _ c.parse_dyn.ensures.parses.1 (follows_trans _ _ _ c.parse_optional_star.ensures.parses.1 (follows_trans _ _ _ c.object_bound.ensures.parses.1 c.object_bounds.ensures.parses.1)))
+    let same = ap (λ z. object_bounds r c.span-from.result c.args.plus z c.object_bound.new.input) (sym c.into_inner.ensures) in
+    (passed_on _ _ _ _ e c.from_residual-in_err-bounds.ensures c.in_err-bounds.ensures.parses.0 (λ h. dyn_refused r c.args.plus c.span-from.result c.args.input.now _ _ _ _ _ _ c.span-from.ensures c.in_ok-dyn_token.ensures.parses.0 c.in_ok-star.ensures.parses.0 c.in_ok-first.ensures.parses.0 e (same ∙ h)), follows_trans _ _ _ c.parse_dyn.ensures.parses.1 (follows_trans _ _ _ c.parse_optional_star.ensures.parses.1 (follows_trans _ _ _ c.object_bound.ensures.parses.1 c.object_bounds.ensures.parses.1)))
 
 pub returns-in_err-bounds-clause-fewer : goal.returns-in_err-bounds-clause-fewer
 returns-in_err-bounds-clause-fewer g c = ahead_follows _ _ (follows_trans _ _ _ c.parse_dyn.ensures.parses.1 (follows_trans _ _ _ c.parse_optional_star.ensures.parses.1 (follows_trans _ _ _ c.object_bound.ensures.parses.1 c.object_bounds.ensures.parses.1)))
@@ -63,7 +64,8 @@ returns-in_err-bounds-clause-fewer g c = ahead_follows _ _ (follows_trans _ _ _ 
 pub returns-clause-parses : goal.returns-clause-parses
 returns-clause-parses g c =
     let r = knot.reads_below g.A.Attributes.reads g.E.Value.reads (length c.args.self.now.begin) in
-    (told_by c.dyn_of.result c.object_bounds.new.input (dyn_told r c.args.plus c.span-from.result c.args.input.now _ _ _ _ _ _ c.span-from.ensures c.in_ok-dyn_token.ensures.parses.0 c.in_ok-star.ensures.parses.0 c.in_ok-first.ensures.parses.0 c.cursor-at.result _ _ c.cursor-at.ensures c.in_ok-bounds.ensures.parses.0) c.dyn_of.ensures.reads, follows_trans _ _ _ c.parse_dyn.ensures.parses.1 (follows_trans _ _ _ c.parse_optional_star.ensures.parses.1 (follows_trans _ _ _ c.object_bound.ensures.parses.1 c.object_bounds.ensures.parses.1)))
+    let same = ap (λ z. object_bounds r c.span-from.result c.args.plus z c.object_bound.new.input) (sym c.into_inner.ensures) in
+    (told_by c.dyn_of.result c.object_bounds.new.input (dyn_told r c.args.plus c.span-from.result c.args.input.now _ _ _ _ _ _ c.span-from.ensures c.in_ok-dyn_token.ensures.parses.0 c.in_ok-star.ensures.parses.0 c.in_ok-first.ensures.parses.0 c.cursor-at.result _ _ c.cursor-at.ensures (same ∙ c.in_ok-bounds.ensures.parses.0)) c.dyn_of.ensures.reads, follows_trans _ _ _ c.parse_dyn.ensures.parses.1 (follows_trans _ _ _ c.parse_optional_star.ensures.parses.1 (follows_trans _ _ _ c.object_bound.ensures.parses.1 c.object_bounds.ensures.parses.1)))
 
 pub returns-clause-fewer : goal.returns-clause-fewer
 returns-clause-fewer g c = ahead_follows _ _ (follows_trans _ _ _ c.parse_dyn.ensures.parses.1 (follows_trans _ _ _ c.parse_optional_star.ensures.parses.1 (follows_trans _ _ _ c.object_bound.ensures.parses.1 c.object_bounds.ensures.parses.1)))

@@ -1,7 +1,7 @@
-use Rattle.std.proofs.Common.{arith}
+use Rattle.std.proofs.Common.{refl, arith}
 use Rattle.token_core.proofs.Suffixes.{follows_trans}
 use Rattle.token_core.proofs.Steps.{link}
-use Rattle.syn_forms.proofs.lists_laws.Turns.{passed_on, stopped}
+use Rattle.syn_forms.proofs.lists_laws.Turns.{passed_on, stopped, told_by}
 use Rattle.syn_forms.proofs.nested_laws.Ahead.{ahead_follows}
 use Rattle.syn_ty.specs.ty.Reading.{paren_type}
 use Rattle.syn_ty.proofs.grammar.Grammar.paren_type.Goals as goal
@@ -23,21 +23,10 @@ of_parens-requires-clause-few g c =
     let le = ahead_follows _ _ c.parens.ensures.parses.1 in
     omega (arith, few, le)
 
-pub returns-in_err-of_parens-clause-parses : goal.returns-in_err-of_parens-clause-parses
-unfolding paren_type
-returns-in_err-of_parens-clause-parses g c =
-    let e = c.in_err-of_parens.field-0.0 in (
-      passed_on _ _ _ _ e c.from_residual-in_err-of_parens.ensures c.in_err-of_parens.ensures.parses.0 (λ h. link _ c.in_ok-paren_token.ensures.parses.0 h),
-      follows_trans _ _ _ c.parens.ensures.parses.1 c.of_parens.ensures.parses.1,
-    )
-
-pub returns-in_err-of_parens-clause-fewer : goal.returns-in_err-of_parens-clause-fewer
-returns-in_err-of_parens-clause-fewer g c = ahead_follows _ _ (follows_trans _ _ _ c.parens.ensures.parses.1 c.of_parens.ensures.parses.1)
-
 pub returns-clause-parses : goal.returns-clause-parses
 unfolding paren_type
 returns-clause-parses g c = (
-  link _ c.in_ok-paren_token.ensures.parses.0 c.in_ok-of_parens.ensures.parses.0,
+  told_by _ _ (link _ c.in_ok-paren_token.ensures.parses.0 refl) c.of_parens.ensures.parses.0,
   follows_trans _ _ _ c.parens.ensures.parses.1 c.of_parens.ensures.parses.1,
 )
 

@@ -2,7 +2,7 @@ use Rattle.std.proofs.Common.{Ok, false, length, sym, ap, ◌∙◌}
 use Rattle.token_core.proofs.Steps.{link}
 use Rattle.syn_forms.specs.declared.places.BoundPlace.TheVariants.{Object}
 use Rattle.syn_forms.specs.lists.Reading.{bounds_from}
-use Rattle.syn_forms.proofs.lists_laws.Turns.{passed_on, stopped}
+use Rattle.syn_forms.proofs.lists_laws.Turns.{passed_on, stopped, told_by}
 use Rattle.syn_ty.specs.ty.Points.{a_bound}
 use Rattle.syn_ty.specs.declared.generics.TypeParamBoundOf.TheVariants as b
 use Rattle.syn_ty.specs.ty.Knot as knot
@@ -19,4 +19,4 @@ pub returns-clause-parses : goal.returns-clause-parses
 returns-clause-parses g c =
     let r = knot.reads_below g.A.Attributes.reads g.E.Value.reads (length c.args.self.now.begin) in
     let same = ap (λ x. bounds_from (r (a_bound Object)) false c.args.plus (b.Trait x) c.args.input.now) (sym c.named_bound.ensures) in
-    (link _ (same ∙ c.in_ok-bounds.ensures.parses.0) (ap (λ z. Ok (z, c.more_bounds.new.input)) (sym c.object_of.ensures)), c.more_bounds.ensures.parses.1)
+    (told_by _ _ (link _ (same ∙ c.in_ok-bounds.ensures.parses.0) (ap (λ z. Ok (z, c.more_bounds.new.input)) (sym c.object_of.ensures))) c.boxed_type.ensures.reads, c.more_bounds.ensures.parses.1)

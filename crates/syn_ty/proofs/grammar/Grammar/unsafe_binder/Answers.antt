@@ -1,7 +1,7 @@
 use Rattle.std.proofs.Common.{refl, sym, ap, length, arith, ◌∙◌}
 use Rattle.token_core.proofs.Suffixes.{follows_trans}
 use Rattle.token_core.proofs.Steps.{link}
-use Rattle.syn_forms.proofs.lists_laws.Turns.{passed_on, stopped}
+use Rattle.syn_forms.proofs.lists_laws.Turns.{passed_on, stopped, told_by}
 use Rattle.syn_forms.proofs.nested_laws.Ahead.{ahead_follows}
 use Rattle.syn_forms.proofs.verbatim_laws.Reached.{reached_later}
 use Rattle.syn_ty.specs.ty.Reading.{unsafe_binder}
@@ -73,7 +73,7 @@ unfolding unsafe_binder
 returns-clause-parses g c =
     let at = ap (λ b. knot.reads_below g.A.Attributes.reads g.E.Value.reads (length b) (a_type c.last_place.result) c.parse_angled_lifetimes.new.input) c.types.ensures.begin in
     let is = ap (λ p. knot.reads_below g.A.Attributes.reads g.E.Value.reads (length c.args.self.now.begin) (a_type p) c.parse_angled_lifetimes.new.input) c.last_place.ensures in (
-      link _ c.in_ok-parse_unsafe.ensures.parses.0 (link _ c.in_ok-parse_angled_lifetimes.ensures.parses.0 (link _ (sym is ∙ sym at ∙ c.in_ok-boxed.ensures.parses.0) (link _ c.in_ok-since.ensures.reads refl))),
+      told_by _ _ (link _ c.in_ok-parse_unsafe.ensures.parses.0 (link _ c.in_ok-parse_angled_lifetimes.ensures.parses.0 (link _ (sym is ∙ sym at ∙ c.in_ok-boxed.ensures.parses.0) (link _ c.in_ok-since.ensures.reads refl)))) c.boxed_type.ensures.reads,
       follows_trans _ _ _ c.parse_unsafe.ensures.parses.1 (follows_trans _ _ _ c.parse_angled_lifetimes.ensures.parses.1 c.boxed.ensures.parses.1),
     )
 

@@ -8,7 +8,7 @@ use Rattle.syn_pat.proofs.pat.read.step.as_element.Goals as goal
 -- the refusal is that of a range that lacks a bound
 pub returns-in-Some : goal.returns-in-Some
 returns-in-Some g c =
-    let open_ : open_range c.args.pat ≡ Some (c.in-Some.start, c.in-Some.end) = sym c.open_range.ensures ∙ c.in-Some.is in
+    let open_ : open_range c.args.pat ≡ Some (c.in-Some.start, c.in-Some.end) = ap open_range (sym c.get.ensures) ∙ sym c.open_range.ensures ∙ c.in-Some.is in
     record {
       parses = (
         λ h. ap (λ o. unless_open o c.args.pat c.args.input.now) open_ ∙ ap Err (ap (λ t. refusal OpenRangeInSlice t c.in-Some.start c.in-Some.end) (sym c.text.ensures) ∙ sym (c.of.ensures.made h)),
