@@ -15,7 +15,7 @@ import subprocess
 ROOT = os.path.normpath(f"{os.path.dirname(os.path.realpath(__file__))}/..")
 KIT = os.path.dirname(subprocess.run(["rt", "doc"], capture_output=True, text=True, check=True).stdout.strip())
 PARTS = ("src", "specs", "proofs")
-FN = re.compile(r"( *)(?:pub(?:\(\w+\))? )?(?:const )?fn (\w+)")
+FN = re.compile(r"( *)(?:pub(?:\(\w+\))? )?(?:const )?(?:extern \"C\" )?fn (\w+)")
 CLAUSE = re.compile(r"\s*(requires|ensures|ghost)\b")
 WORD = re.compile(r"[A-Za-z_]\w*")
 IMPORT = re.compile(r"(?m)^((?:pub(?:\(\w+\))? )?use )([\w:]+)::(?:\{([^}]*)\}|(\w+));\n")
@@ -133,7 +133,8 @@ class Block:
         if "impl" in outer:
             names = outer[outer.index("impl") + 1 :]
             at = names.index("for") if "for" in names else None
-            self.trait, self.of = (None, names[0]) if at is None else (names[at - 1], names[at + 1])
+            # (a slice has no name)
+            self.trait, self.of = (None, names[0]) if at is None else (names[at - 1], [*names, "[]"][at + 1])
 
 
 def unbounded(head):
@@ -173,7 +174,8 @@ def body_of(lines, head, indent):
     """The line of a function's `{`, behind which its body begins; none where it has no body."""
     for at in range(head, len(lines)):
         line = lines[at]
-        if line == f"{indent}{{" or line.endswith((") {", "> {")) or re.search(r"\w \{$", line) and not CLAUSE.match(line):
+        if line == f"{indent}{{" or re.search(r"[)>\w] \{$|-> [^{}]* \{ let ", line) and not CLAUSE.match(line):
+            # (an edit may begin a body in the line of its head)
             return at
         if line.endswith(";") and (at == head or not line.startswith(f"{indent}     ")):
             return None
