@@ -70,8 +70,7 @@ pub fn expression<X: Subtree>(tree: &Expr<X>)
 
 /// The normal form of a type.
 pub fn ty<A: Attributes, E: Value>(tree: &TypeOf<A, E>)
-    ensures admitted { (place : TypePlace) →
-        Admitted (types.ty A.reads E.reads A.spells E.spells A.normal E.normal A.shown E.values place) tree.now }
+    ensures admitted { (place : TypePlace) → Admitted (types.ty A.Attributes E.Value place) tree.now }
     ensures stays { OwnList A.normal → OwnValues E.normal →
         normal_types.ty A.normal E.normal (normal_types.ty A.normal E.normal tree.now)
         ≡ normal_types.ty A.normal E.normal tree.now }
@@ -82,8 +81,7 @@ pub fn ty<A: Attributes, E: Value>(tree: &TypeOf<A, E>)
 
 /// The normal form of generics.
 pub fn generics<A: Attributes, E: Value>(tree: &GenericsOf<A, E>)
-    ensures admitted { Admitted (promises.generics A.reads E.reads A.spells E.spells A.normal E.normal A.shown E.values)
-        tree.now }
+    ensures admitted { Admitted (promises.generics A.Attributes E.Value) tree.now }
     ensures stays { OwnList A.normal → OwnValues E.normal →
         normal_generics.generics A.normal E.normal (normal_generics.generics A.normal E.normal tree.now)
         ≡ normal_generics.generics A.normal E.normal tree.now }
@@ -94,18 +92,14 @@ pub fn generics<A: Attributes, E: Value>(tree: &GenericsOf<A, E>)
 
 /// The print of `ImplGenerics`, of generics that spell some list plainly: `Generics` reads it as the normal form of these without defaults and where clause.
 pub fn impl_generics<A: Attributes, E: Value>(tree: &GenericsOf<A, E>)
-    ensures again { (promises.generics A.reads E.reads A.spells E.spells A.normal E.normal A.shown E.values).plain
-        tree.now →
-        Reprinted (promises.generics A.reads E.reads A.spells E.spells A.normal E.normal A.shown E.values)
-        (stripped tree.now) }
+    ensures again { (promises.generics A.Attributes E.Value).plain tree.now →
+        Reprinted (promises.generics A.Attributes E.Value) (stripped tree.now) }
 {}
 
 /// The print of a where clause that spells some list plainly: an optional where clause reads it as the normal form, none without predicates.
 pub fn where_clause<A: Attributes, E: Value>(tree: &WhereClauseOf<A, E>)
-    ensures again { (promises.optional_where_clause A.reads E.reads
-        A.spells E.spells A.normal E.normal A.shown E.values).plain (Some tree.now) →
-        Reprinted (promises.optional_where_clause A.reads E.reads A.spells E.spells A.normal E.normal A.shown E.values)
-        (Some tree.now) }
+    ensures again { (promises.optional_where_clause A.Attributes E.Value).plain (Some tree.now) →
+        Reprinted (promises.optional_where_clause A.Attributes E.Value) (Some tree.now) }
 {}
 
 /// The normal form of a pattern.

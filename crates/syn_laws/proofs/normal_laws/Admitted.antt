@@ -1,20 +1,19 @@
 -- An admitted tree whose verbatim parts are clear prints its normal form, which is its own and prints the same: of every grammar that meets its laws, and of the value of a meta.
-use Rattle.std.proofs.Common.{◌≡◌, Bool, false, List, None, Ok, sym, ◌∙◌, ap}
-use Rattle.token_core.specs.Headline.{Grammar, Lawful, Reprinted, printed}
+use Rattle.std.proofs.Common.{◌≡◌, false, List, None, Ok, sym, ◌∙◌, ap}
+use Rattle.token_core.specs.Headline.{Grammar, Lawful, printed}
 use Rattle.token_core.specs.Prints.{Print}
-use Rattle.token_core.specs.Rebuilt.{Visible}
 use Rattle.token_core.specs.Reads.{Reader, leaves}
 use Rattle.token_core.specs.Stream.{Stream}
 use Rattle.token_core.specs.Toks.{Toks}
 use Rattle.token_core.proofs.Headlines.{again}
 use Rattle.syn_path.specs.Supplied.{IsApart, Reprints, SameOutcome, UsesUp}
-use Rattle.syn_path.specs.Values.{NormalValues, ReadValues, SpelledValues, Values}
+use Rattle.syn_path.specs.Traits.{Attributes, Expressions}
 use Rattle.syn_path.specs.declared.supplied.Place.{Place}
 use Rattle.syn_path.specs.declared.supplied.Place.TheVariants.{Value}
 use Rattle.syn_attr.specs.declared.attr.Meta.{Meta}
 use Rattle.syn_attr.specs.declared.expr.Expr.{Expr}
 use Rattle.syn_attr.specs.declared.expr.Expr.TheVariants as e
-use Rattle.syn_attr.specs.attr.Attrs.{Attribute, literal}
+use Rattle.syn_attr.specs.attr.Attrs.{Attribute}
 use Rattle.syn_attr.specs.attr.Grammars as grammars
 use Rattle.syn_attr.specs.attr.Normal as normal
 use Rattle.syn_attr.specs.attr.Printing as printing
@@ -79,10 +78,10 @@ module _ {X : Type 0} (reads : Place → Reader X) (spells : Place → X → Tok
   pub pat_admitted : (x : Pat X) (place : PatPlace) → Admitted (patterns.pat reads spells normals prints place) x
   pat_admitted x place = admitted (patterns.pat reads spells normals prints place) (pat_lawful reads spells normals prints steady sound complete reprint apart place) x
 
-module _ {A E : Type 0} {attrs : Reader (List A)} {values : ReadValues E} {shown : Bool → List A → Toks → Toks → Type 0} {spelt : SpelledValues E} {na : List A → List A} {ne : NormalValues E} {pa : List A → Print} {pe : Values E}
-    (g : Given attrs values shown spelt) (m : GivenMeets attrs values shown spelt) (a : GivenAgain na ne pa pe shown spelt) where
-  pub ty_admitted : (x : TypeTree A E) (place : TypePlace) → Admitted (types.ty attrs values shown spelt na ne pa pe place) x
-  ty_admitted x place = admitted (types.ty attrs values shown spelt na ne pa pe place) (ty_lawful g m a place) x
+module _ {A E : Type 0} (attrs : Attributes A) (exprs : Expressions E) (g : Given attrs.reads exprs.reads attrs.spells exprs.spells) (m : GivenMeets attrs.reads exprs.reads attrs.spells exprs.spells)
+    (a : GivenAgain attrs.normal exprs.normal attrs.shown exprs.values attrs.spells exprs.spells) where
+  pub ty_admitted : (x : TypeTree A E) (place : TypePlace) → Admitted (types.ty attrs exprs place) x
+  ty_admitted x place = admitted (types.ty attrs exprs place) (ty_lawful g m a place) x
 
-  pub generics_admitted : (x : GenericsOf A E) → Admitted (generics.generics attrs values shown spelt na ne pa pe) x
-  generics_admitted = admitted (generics.generics attrs values shown spelt na ne pa pe) (generics_lawful g m a)
+  pub generics_admitted : (x : GenericsOf A E) → Admitted (generics.generics attrs exprs) x
+  generics_admitted = admitted (generics.generics attrs exprs) (generics_lawful g m a)
