@@ -40,7 +40,7 @@ use token_core::Items;
 
 /// The normal form of a meta.
 pub fn meta<X: Subtree>(tree: &Meta<X>)
-    ensures admitted { Admitted (grammars.meta X.reads X.spells X.normal X.prints) tree.now }
+    ensures admitted { Admitted (grammars.meta X.Subtree) tree.now }
     ensures stays { Own X.normal →
         normal.meta X.normal (normal.meta X.normal tree.now) ≡ normal.meta X.normal tree.now }
     ensures same { SamePrint X.normal X.prints →
@@ -49,8 +49,8 @@ pub fn meta<X: Subtree>(tree: &Meta<X>)
 
 /// The normal form of attributes.
 pub fn attributes<X: Subtree>(trees: &Items<Attribute<X>>)
-    ensures outer { Admitted (grammars.outer X.reads X.spells X.normal X.prints) trees.now }
-    ensures inner { Admitted (grammars.inner X.reads X.spells X.normal X.prints) trees.now }
+    ensures outer { Admitted (grammars.outer X.Subtree) trees.now }
+    ensures inner { Admitted (grammars.inner X.Subtree) trees.now }
     ensures stays { Own X.normal →
         normal.attributes X.normal (normal.attributes X.normal trees.now) ≡ normal.attributes X.normal trees.now }
     ensures same { SamePrint X.normal X.prints →
@@ -104,7 +104,7 @@ pub fn where_clause<A: Attributes, E: Value>(tree: &WhereClauseOf<A, E>)
 
 /// The normal form of a pattern.
 pub fn pat<X: Subtree>(tree: &Pat<X>)
-    ensures admitted { (place : PatPlace) → Admitted (patterns.pat X.reads X.spells X.normal X.prints place) tree.now }
+    ensures admitted { (place : PatPlace) → Admitted (patterns.pat X.Subtree place) tree.now }
     ensures stays { Own X.normal →
         normal_patterns.pat X.normal (normal_patterns.pat X.normal tree.now) ≡ normal_patterns.pat X.normal tree.now }
     ensures same { SamePrint X.normal X.prints →

@@ -79,7 +79,7 @@ impl<X: Subtree> Parser for ParseOuter<X> {
 
     ghost refuses = { λ _. Fails (attrs.outer X.reads) };
 
-    ghost promise = { λ _. Headline (grammars.outer X.reads X.spells X.normal X.prints) };
+    ghost promise = { λ _. Headline (grammars.outer X.Subtree) };
 
     fn parse(
         self,
@@ -113,7 +113,7 @@ impl<X: Subtree> Parser for ParseInner<X> {
 
     ghost refuses = { λ _. Fails (attrs.inner X.reads) };
 
-    ghost promise = { λ _. Headline (grammars.inner X.reads X.spells X.normal X.prints) };
+    ghost promise = { λ _. Headline (grammars.inner X.Subtree) };
 
     fn parse(
         self,

@@ -1,6 +1,5 @@
 -- What each reader that a run knows reads, prints and promises.
 use Rattle.std.specs.Prelude.{◌≡◌, List, [], Ok}
-use Rattle.token_core.specs.Toks.{Toks}
 use Rattle.token_core.specs.Trees.{TokenStream, trees}
 use Rattle.token_core.specs.Prints.{Print}
 use Rattle.token_core.specs.Reads.{Reader as R}
@@ -19,7 +18,7 @@ use Rattle.syn_attr.specs.attr.Grammars as attrs
 use Rattle.syn_attr.specs.attr.Printing as attr_printing
 use Rattle.syn_attr.specs.attr.Traits as given
 use Rattle.syn_attr.specs.declared.expr.Expr.{Expr}
-use Rattle.syn_path.specs.Traits.{Attributes, Expressions}
+use Rattle.syn_path.specs.Traits.{Attributes, Expressions, Subtree}
 use Rattle.syn_path.specs.mac.Grammars as macs
 use Rattle.syn_path.specs.path.Grammars as paths
 use Rattle.syn_ty.specs.path.Paths as path
@@ -36,11 +35,11 @@ PatternsTree X (q.In place) = pats.Pat X
 PatternsTree X q.Guarded = pats.Pat X
 PatternsTree X q.Typed = pats.PatType X
 
-module _ {X : Type 0} (reads : Place → R X) (spells : Place → X → Toks → Type 0) (normals : Place → X → X) (prints : Place → X → Print) where
+module _ {X : Type 0} (sub : Subtree X) where
   abbrev pub patterns_category : (r : PatternReader) → Category (PatternsTree X r)
-  patterns_category (q.In place) = of_grammar (pat_promises.pat reads spells normals prints place)
-  patterns_category q.Guarded = of_grammar (pat_promises.guarded reads spells normals prints)
-  patterns_category q.Typed = of_grammar (pat_promises.typed reads spells normals prints)
+  patterns_category (q.In place) = of_grammar (pat_promises.pat sub place)
+  patterns_category q.Guarded = of_grammar (pat_promises.guarded sub)
+  patterns_category q.Typed = of_grammar (pat_promises.typed sub)
 
 -- what a reader of patterns shows: the print of the tree that its read answers
 abbrev pub shows : {A : Type 0} → R A → (A → Print) → Stream → TokenStream → Stream → Type 0
@@ -66,26 +65,26 @@ Tree X (Patterns r) = PatternsTree X r
 abbrev pub attributes : {X : Type 0} → (Place → X → Print) → List (Attribute X) → Print
 attributes = attr_printing.attributes
 
-module _ {X : Type 0} (reads : Place → R X) (spells : Place → X → Toks → Type 0) (normals : Place → X → X) (prints : Place → X → Print) where
+module _ {X : Type 0} (sub : Subtree X) where
   -- attributes and expressions in types
   abbrev pub attributes_in : Attributes (Attribute X)
-  attributes_in = given.attributes reads spells normals prints
+  attributes_in = given.attributes sub
 
   abbrev pub expressions_in : Expressions (Expr X)
-  expressions_in = given.expressions reads spells normals prints
+  expressions_in = given.expressions sub
 
-  -- what a reader reads, prints and promises
+  -- what a reader sub.reads, sub.prints and promises
   abbrev pub category : (r : Reader) → Category (Tree X r)
   category Macro = of_grammar macs.mac
   category ModStyle = of_grammar (paths.mod_style path.nothing (λ a. []))
-  category Meta = of_grammar (attrs.meta reads spells normals prints)
+  category Meta = of_grammar (attrs.meta sub)
   category MetaList = of_grammar attrs.list
-  category MetaNameValue = of_grammar (attrs.name_value reads spells normals prints)
-  category Outer = of_grammar (attrs.outer reads spells normals prints)
-  category Inner = of_grammar (attrs.inner reads spells normals prints)
+  category MetaNameValue = of_grammar (attrs.name_value sub)
+  category Outer = of_grammar (attrs.outer sub)
+  category Inner = of_grammar (attrs.inner sub)
   category PointerMutability = of_grammar tokens.mutability
   category (Types r) = types_category attributes_in expressions_in r
   category (Paths r) = paths_category attributes_in expressions_in r
   category (Generics r) = generics_category attributes_in expressions_in r
   category (Items r) = items_category attributes_in expressions_in r
-  category (Patterns r) = patterns_category reads spells normals prints r
+  category (Patterns r) = patterns_category sub r

@@ -2,7 +2,7 @@
 use Rattle.std.proofs.Common.{◌≡◌, ℕ, Bool, true, false, List, [], None, Ok, option_map, refl, sym, ◌∙◌}
 use Rattle.token_core.specs.Headline.{Grammar, Lawful}
 use Rattle.token_core.specs.Prints.{Print}
-use Rattle.token_core.specs.Reads.{Reader, leaves}
+use Rattle.token_core.specs.Reads.{leaves}
 use Rattle.token_core.specs.Stream.{Stream}
 use Rattle.token_core.specs.Toks.{Toks, done}
 use Rattle.syn_path.specs.declared.path.PathStyle.TheVariants.{AsWritten, Expr as expressions}
@@ -10,7 +10,7 @@ use Rattle.syn_path.specs.declared.supplied.Place.{Place}
 use Rattle.syn_path.specs.declared.supplied.Place.TheVariants.{Value}
 use Rattle.syn_path.specs.Lengths.{LengthLaws}
 use Rattle.syn_path.specs.Supplied.{IsApart, Reprints, SameOutcome, UsesUp}
-use Rattle.syn_path.specs.Traits.{Attributes, Expressions}
+use Rattle.syn_path.specs.Traits.{Attributes, Expressions, Subtree}
 use Rattle.syn_path.specs.Values.{SpelledValues}
 use Rattle.syn_path.specs.Whole.{AttributesMeet, ConstsMeet}
 use Rattle.syn_attr.specs.attr.Attrs.{Attribute as Attr}
@@ -90,40 +90,40 @@ without_values = record {
 pub mod_paths : {G : Type 0} (none : G) (shown : G → Print) → shown none ≡ [] → readers.ModPaths none shown
 mod_paths none shown silent = record { mod_style = λ f. mod_style_aside none f shown silent }
 
-module _ {X : Type 0} (reads : Place → Reader X) (spells : Place → X → Toks → Type 0) (normals : Place → X → X) (prints : Place → X → Print) (fx : X → X) (given : MovesSubtree spells fx)
-    (steady : (p : Place) (s t : Stream) → s.rest ≡ t.rest → SameOutcome (reads p s) (reads p t))
-    (sound : (p : Place) (s t : Stream) (x : X) → reads p s ≡ Ok (x, t) → leaves t ≡ None → spells p x s.rest)
-    (complete : (p : Place) (s : Stream) (x : X) → spells p x s.rest → (t : Stream) × (reads p s ≡ Ok (x, t)) × UsesUp s t)
-    (reprint : (p : Place) (x : X) (l : Toks) → spells p x l → Reprints (spells p) (normals p) (prints p) x l)
-    (apart : (x : X) (l : Toks) → spells Value x l → IsApart l) where
-  pub attributes : readers.Attributes reads spells normals prints fx
+module _ {X : Type 0} (sub : Subtree X) (given : MovesSubtree sub.spells sub.bare)
+    (steady : (p : Place) (s t : Stream) → s.rest ≡ t.rest → SameOutcome (sub.reads p s) (sub.reads p t))
+    (sound : (p : Place) (s t : Stream) (x : X) → sub.reads p s ≡ Ok (x, t) → leaves t ≡ None → sub.spells p x s.rest)
+    (complete : (p : Place) (s : Stream) (x : X) → sub.spells p x s.rest → (t : Stream) × (sub.reads p s ≡ Ok (x, t)) × UsesUp s t)
+    (reprint : (p : Place) (x : X) (l : Toks) → sub.spells p x l → Reprints (sub.spells p) (sub.normal p) (sub.prints p) x l)
+    (apart : (x : X) (l : Toks) → sub.spells Value x l → IsApart l) where
+  pub attributes : readers.Attributes sub
   attributes = record {
-    meta = meta_aside reads spells normals prints fx given (meta_lawful reads spells normals prints sound complete reprint apart);
-    name_value = name_value_aside reads spells normals prints fx given (name_value_lawful reads spells normals prints sound complete reprint apart);
-    outer = outer_aside reads spells normals prints fx given (outer_lawful reads spells normals prints sound complete reprint apart);
-    inner = inner_aside reads spells normals prints fx given (inner_lawful reads spells normals prints sound complete reprint apart);
+    meta = meta_aside sub given (meta_lawful sub sound complete reprint apart);
+    name_value = name_value_aside sub given (name_value_lawful sub sound complete reprint apart);
+    outer = outer_aside sub given (outer_lawful sub sound complete reprint apart);
+    inner = inner_aside sub given (inner_lawful sub sound complete reprint apart);
   }
 
-  pub patterns : readers.Patterns reads spells normals prints fx
+  pub patterns : readers.Patterns sub
   patterns = record {
-    pat = λ place. pat_aside spells fx given place _ _ _ (pat_lawful reads spells normals prints steady sound complete reprint apart place);
-    guarded = guarded_aside spells fx given _ _ _ (guarded_lawful reads spells normals prints steady sound complete reprint apart);
-    typed = typed_aside spells fx given _ _ _ (typed_lawful reads spells normals prints steady sound complete reprint apart);
+    pat = λ place. pat_aside sub.spells sub.bare given place _ _ _ (pat_lawful sub steady sound complete reprint apart place);
+    guarded = guarded_aside sub.spells sub.bare given _ _ _ (guarded_lawful sub steady sound complete reprint apart);
+    typed = typed_aside sub.spells sub.bare given _ _ _ (typed_lawful sub steady sound complete reprint apart);
   }
 
   -- ---- types and what they hold
 
   abbrev na : List (Attr X) → List (Attr X)
-  na = free_attrs.attributes fx
+  na = free_attrs.attributes sub.bare
 
   abbrev ne : Expr X → Expr X
-  ne = free_attrs.value fx
+  ne = free_attrs.value sub.bare
 
   abbrev attrs : Attributes (Attr X)
-  attrs = given_by_subtree.attributes reads spells normals prints
+  attrs = given_by_subtree.attributes sub
 
   abbrev exprs : Expressions (Expr X)
-  exprs = given_by_subtree.expressions reads spells normals prints
+  exprs = given_by_subtree.expressions sub
 
   abbrev sa : Bool → List (Attr X) → Toks → Toks → Type 0
   sa = attrs.spells
@@ -133,25 +133,25 @@ module _ {X : Type 0} (reads : Place → Reader X) (spells : Place → X → Tok
 
   -- the laws of attributes and expressions over it
   lens : LengthLaws exprs.reads.len se.len exprs.normal.len exprs.values.len
-  lens = length_laws reads spells normals prints steady sound complete reprint
+  lens = length_laws sub.reads sub.spells sub.normal sub.prints steady sound complete reprint
 
   attrs_meet : AttributesMeet attrs.reads sa attrs.normal attrs.shown
-  attrs_meet = attributes_meet reads spells normals prints complete reprint apart
+  attrs_meet = attributes_meet sub.reads sub.spells sub.normal sub.prints complete reprint apart
 
   values_meet : ConstsMeet exprs.reads.const_argument se.const_argument se.const_default exprs.normal.const_argument exprs.values.const_argument
-  values_meet = consts_meet reads spells normals prints complete reprint
+  values_meet = consts_meet sub.reads sub.spells sub.normal sub.prints complete reprint
 
   g : Given attrs.reads exprs.reads sa se
-  g = given_by (attributes_told reads spells sound) (consts_told reads spells sound) lens
+  g = given_by (attributes_told sub.reads sub.spells sound) (consts_told sub.reads sub.spells sound) lens
 
   m : GivenMeets attrs.reads exprs.reads sa se
   m = given_meets attrs_meet values_meet lens
 
   a : GivenAgain attrs.normal exprs.normal attrs.shown exprs.values sa se
-  a = given_again attrs_meet values_meet lens (bare_laws normals prints)
+  a = given_again attrs_meet values_meet lens (bare_laws sub.normal sub.prints)
 
   up : (n : ℕ) → Moving na ne (spelt_to sa se n clearly)
-  up = types_move spells fx given
+  up = types_move sub.spells sub.bare given
 
   by_height : {F : Type 0} (G : Grammar F) (fr : F → F) → Lawful G → (Is : (Manner → Parts (Attr X) (Expr X)) → Manner → Relation F) → ((x : F) (l : Toks) → G.spells true x l → Begins sa se Is clearly x l done) → ((x : F) (l : Toks) → Begins sa se Is clearly x l done → G.spells true x l) →
       ((n : ℕ) → Mover fr (Is (spelt_to sa se n) clearly)) → Asides G fr
@@ -173,7 +173,7 @@ module _ {X : Type 0} (reads : Place → Reader X) (spells : Place → X → Tok
 
   path_alone : (n : ℕ) → Mover (free.path_type na ne) (IsPathAlone sa se (spelt_to sa se n) clearly)
   path_alone =
-      path_alone_moves na ne sa se (λ x l r m i s. attrs_move spells fx given i s) (λ x l m i s. len_moves spells fx given i s) (λ x l r m i s. const_moves spells fx given i s) (λ x l r m i s. default_moves spells fx given i s)
+      path_alone_moves na ne sa se (λ x l r m i s. attrs_move sub.spells sub.bare given i s) (λ x l m i s. len_moves sub.spells sub.bare given i s) (λ x l r m i s. const_moves sub.spells sub.bare given i s) (λ x l r m i s. default_moves sub.spells sub.bare given i s)
 
   -- what a lifetime parameter by itself holds
   attributes_alone : Moving na (λ (x : Unit {0}). x) (with_attributes sa clearly)
@@ -184,7 +184,7 @@ module _ {X : Type 0} (reads : Place → Reader X) (spells : Place → X → Tok
     argument = λ x l r m i s. absurd i;
     arguments = λ x l r m i s. absurd i;
     angle = λ x l r m i s. absurd i;
-    attrs = λ x l r m i s. attrs_move spells fx given i s;
+    attrs = λ x l r m i s. attrs_move sub.spells sub.bare given i s;
     len = λ x l m i s. absurd i;
     const_argument = λ x l r m i s. absurd i;
     const_default = λ x l r m i s. absurd i;
@@ -193,7 +193,7 @@ module _ {X : Type 0} (reads : Place → Reader X) (spells : Place → X → Tok
   lifetime_moved : {x : LifetimeParamOf (Attr X)} {l r m : Toks} → IsLifetimeAlone sa clearly x l r → Same l m → Moved (free.lifetime_param na ne) (IsLifetimeAlone sa clearly) x r m
   lifetime_moved i s = let q = lifetime_param_moves na (λ (x : Unit {0}). x) (with_attributes sa) attributes_alone i s in record { tree = q.tree; rest = q.rest; is = q.is; same = q.same; on = q.on; part = q.part }
 
-  pub paths : readers.Paths reads spells normals prints fx
+  pub paths : readers.Paths sub
   paths = record {
     path = by_height (promises.path attrs exprs) (free.path na ne) (type_laws.path_lawful attrs exprs g m a) (λ part how. IsPath part how AsWritten) (λ x l i. i) (λ x l i. i) (λ n x l r m i s. path_moves na ne (spelt_to sa se n) (up n) i s);
     segment = by_height (promises.segment attrs exprs) (free.segment na ne) (type_laws.segment_lawful attrs exprs g m a) (λ part how. IsSegment part how AsWritten) (λ x l i. i) (λ x l i. i) (λ n x l r m i s. segment_moves na ne (spelt_to sa se n) (up n) i s);
@@ -203,7 +203,7 @@ module _ {X : Type 0} (reads : Place → Reader X) (spells : Place → X → Tok
     parenthesized = by_ending (promises.parenthesized attrs exprs) (free.parenthesized na ne) (type_laws.parenthesized_lawful attrs exprs g m a) (IsParens) (λ x l i. i) (λ x l i. i) (λ n e x l r m i s. parens_move na ne (spelt_to sa se n) (up n) i s);
   }
 
-  pub types : readers.Types reads spells normals prints fx
+  pub types : readers.Types sub
   types = record {
     ty = λ place. by_ending (promises.ty attrs exprs place) (free.ty na ne) (type_laws.ty_lawful attrs exprs g m a place) (λ part how. IsType part how place) (λ x l i. i) (λ x l i. i) (λ n e x l r m i s. type_moves na ne (spelt_to sa se n) (up n) i s);
     return_type = λ place. by_ending (promises.return_type attrs exprs place) (free.return_type na ne) (type_laws.return_type_lawful attrs exprs g m a place) (λ part how. IsReturn part how place) (λ x l i. i) (λ x l i. i) (λ n e x l r m i s. return_moves na ne (spelt_to sa se n) (up n) i s);
@@ -224,10 +224,10 @@ module _ {X : Type 0} (reads : Place → Reader X) (spells : Place → X → Tok
     macro_type = by_front (plain.macro_type attrs.normal) (free.macro_type na ne) (plain_laws.macro_type_lawful attrs.normal refl) (IsMacroType true) (λ x l i. i) (λ x l i. i) (λ x l r m i s. macro_type_moves na ne i s);
   }
 
-  pub parameters : readers.Parameters reads spells normals prints fx
+  pub parameters : readers.Parameters sub
   parameters = record {
     param = by_height (promises.param attrs exprs) (free.param na ne) (type_laws.param_lawful attrs exprs g m a) (λ part how. IsParam part how Binder) (λ x l i. i) (λ x l i. i) (λ n x l r m i s. param_moves na ne (spelt_to sa se n) (up n) i s);
-    lifetime_param = by_front (promises.lifetime_param attrs) (free.lifetime_param na ne) (type_laws.lifetime_param_lawful attrs (attributes_told reads spells sound) (attributes_met attrs_meet) (attributes_again attrs_meet)) (IsLifetimeAlone sa clearly) (λ x l i. i) (λ x l i. i) (λ x l r m i s. lifetime_moved i s);
+    lifetime_param = by_front (promises.lifetime_param attrs) (free.lifetime_param na ne) (type_laws.lifetime_param_lawful attrs (attributes_told sub.reads sub.spells sound) (attributes_met attrs_meet) (attributes_again attrs_meet)) (IsLifetimeAlone sa clearly) (λ x l i. i) (λ x l i. i) (λ x l r m i s. lifetime_moved i s);
     type_param = by_height (promises.type_param attrs exprs) (free.type_param na ne) (type_laws.type_param_lawful attrs exprs g m a) (IsTypeParam) (λ x l i. i) (λ x l i. i) (λ n x l r m i s. type_param_moves na ne (spelt_to sa se n) (up n) i s);
     const_param = by_height (promises.const_param attrs exprs) (free.const_param na ne) (type_laws.const_param_lawful attrs exprs g m a) (IsConstParam) (λ x l i. i) (λ x l i. i) (λ n x l r m i s. const_param_moves na ne (spelt_to sa se n) (up n) i s);
     binder = by_height (promises.binder attrs exprs) (free.bound_lifetimes na ne) (type_laws.binder_lawful attrs exprs g m a) (IsFor) (λ x l i. i) (λ x l i. i) (λ n x l r m i s. for_moves na ne (spelt_to sa se n) (up n) i s);
@@ -236,7 +236,7 @@ module _ {X : Type 0} (reads : Place → Reader X) (spells : Place → X → Tok
     trait_bound = by_ending (promises.trait_bound attrs exprs) (free.trait_bound na ne) (type_laws.trait_bound_lawful attrs exprs g m a) (λ part how. IsTraitBound part how false) (λ x l i. i) (λ x l i. i) (λ n e x l r m i s. trait_bound_moves na ne (spelt_to sa se n) (up n) i s);
   }
 
-  pub generics : readers.Generics reads spells normals prints fx
+  pub generics : readers.Generics sub
   generics = record {
     generics = by_height (clauses.generics attrs exprs) (free_generics.generics na ne) (clause_laws.generics_lawful attrs exprs g m a) (AreGenerics) (λ x l i. i) (λ x l i. i) (λ n x l r m i s. generics_move na ne (spelt_to sa se n) (up n) i s);
     where_clause = by_height (clauses.where_clause attrs exprs) (free_generics.where_clause na ne) (clause_laws.where_clause_lawful attrs exprs g m a) (IsWhereClause) (λ x l i. i) (λ x l i. i) (λ n x l r m i s. clause_moves na ne (spelt_to sa se n) (up n) i s);
