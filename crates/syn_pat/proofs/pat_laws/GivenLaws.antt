@@ -1,29 +1,24 @@
 -- The laws of each grammar of patterns follow from those of a supplied subtree alone.
 use Rattle.std.proofs.Common.{◌≡◌, None, Ok, refl}
+use Rattle.syn_pat.proofs.pat_laws.words.Tokens.{leaves, Stream, Toks}
+use Rattle.syn_pat.proofs.pat_laws.words.Paths.{Place, Reprints, SameOutcome, UsesUp}
+use Rattle.syn_pat.proofs.pat_laws.words.Attributes.{normal_values_of, values_of, outer}
+use Rattle.syn_pat.proofs.pat_laws.words.Patterns.{PatPlace, values, outer_spelt, values_spelt}
 use Rattle.token_core.specs.Headline.{Lawful}
-use Rattle.token_core.specs.Reads.{leaves}
-use Rattle.token_core.specs.Stream.{Stream}
-use Rattle.token_core.specs.Toks.{Toks}
 use Rattle.syn_path.specs.Traits.{Subtree}
-use Rattle.syn_path.specs.declared.supplied.Place.{Place}
 use Rattle.syn_path.specs.declared.supplied.Place.TheVariants.{Value}
 use Rattle.syn_path.specs.Lengths.{LengthLaws}
-use Rattle.syn_path.specs.Supplied.{Reprints, SameOutcome, UsesUp, IsApart}
+use Rattle.syn_path.specs.Supplied.{IsApart}
 use Rattle.syn_path.specs.Whole.{AttributesMeet, ConstsMeet}
-use Rattle.syn_attr.specs.attr.Consts.{normal_values_of, values_of}
 use Rattle.syn_attr.specs.attr.Lengths.{length_laws}
-use Rattle.syn_attr.specs.attr.Reading.{outer}
 use Rattle.syn_attr.specs.attr.ConstsMeet.{consts_meet}
 use Rattle.syn_attr.specs.attr.OuterMeet.{attributes_meet}
 use Rattle.syn_ty.proofs.ty_laws.GivenWhole.{given_again, given_meets}
 use Rattle.syn_ty.proofs.ty_laws.reprint.Knot.{GivenAgain}
 use Rattle.syn_ty.proofs.ty_laws.complete.Knot.{GivenMeets}
-use Rattle.syn_pat.specs.declared.place.PatPlace.{PatPlace}
 use Rattle.syn_pat.specs.pat.Normal as normal
 use Rattle.syn_pat.specs.pat.Printing as printing
 use Rattle.syn_pat.specs.pat.Promises as promises
-use Rattle.syn_pat.specs.pat.Reading.{values}
-use Rattle.syn_pat.specs.pat.Spelling.{outer_spelt, values_spelt}
 use Rattle.syn_pat.proofs.pat_laws.WholeLaws as laws
 
 module _ {X : Type 0} (sub : Subtree X)

@@ -1,27 +1,18 @@
 -- The laws of each grammar of patterns, where those of a supplied subtree are given: its read is sound and complete, and what it spells plainly is reprinted.
 use Rattle.std.proofs.Common.{◌≡◌, None, Ok, sym, ◌∙◌, subst}
+use Rattle.syn_pat.proofs.pat_laws.words.Tokens.{leaves, none, Stream, Toks, done, row}
+use Rattle.syn_pat.proofs.pat_laws.words.Paths.{Place, Block, Guard, Reprints, SameOutcome, UsesUp}
+use Rattle.syn_pat.proofs.pat_laws.words.Attributes.{normal_values_of, values_of, outer}
+use Rattle.syn_pat.proofs.pat_laws.words.Patterns.{PatPlace, values, outer_spelt, values_spelt, SpellsGuarded, SpellsPat, SpellsPatType}
 use Rattle.token_core.specs.Headline.{Lawful}
-use Rattle.token_core.specs.Reads.{leaves}
-use Rattle.token_core.specs.Spans.{none}
-use Rattle.token_core.specs.Stream.{Stream, started}
-use Rattle.token_core.specs.Toks.{Toks, done}
-use Rattle.token_core.specs.Trees.{row}
+use Rattle.token_core.specs.Stream.{started}
 use Rattle.token_core.proofs.Turns.{same_pair}
 use Rattle.syn_path.specs.Traits.{Subtree}
-use Rattle.syn_path.specs.declared.supplied.Place.{Place}
-use Rattle.syn_path.specs.declared.supplied.Place.TheVariants.{Block, Guard}
-use Rattle.syn_path.specs.Supplied.{Reprints, SameOutcome, UsesUp}
-use Rattle.syn_attr.specs.attr.Consts.{normal_values_of, values_of}
-use Rattle.syn_attr.specs.attr.Reading.{outer}
 use Rattle.syn_ty.proofs.ty_laws.reprint.Knot.{GivenAgain}
 use Rattle.syn_ty.proofs.ty_laws.complete.Knot.{GivenMeets}
-use Rattle.syn_pat.specs.declared.place.PatPlace.{PatPlace}
 use Rattle.syn_pat.specs.pat.Normal as normal
 use Rattle.syn_pat.specs.pat.Printing as printing
 use Rattle.syn_pat.specs.pat.Promises as promises
-use Rattle.syn_pat.specs.pat.Reading.{values}
-use Rattle.syn_pat.specs.pat.Spelling.{outer_spelt, values_spelt}
-use Rattle.syn_pat.specs.pat.Spelt.{SpellsGuarded, SpellsPat, SpellsPatType}
 use Rattle.syn_ty.proofs.ty_laws.WholeLaws.{lawful}
 use Rattle.syn_pat.proofs.pat_laws.reprint.Parts.{SuppliedAgain}
 use Rattle.syn_pat.proofs.pat_laws.reprint.Whole as again

@@ -1,22 +1,16 @@
 -- The grammar of types meets its laws on the front of a list, where those of attributes and expressions are given: before what may follow, its read is sound and complete, and what it spells plainly is reprinted.
 use Rattle.std.proofs.Common.{◌≡◌, Bool, true, Ok, refl}
+use Rattle.syn_ty.proofs.ty_laws.words.Tokens.{Print, Reader, is_done, Visible, Stream, Toks, done}
+use Rattle.syn_ty.proofs.ty_laws.words.Paths.{TookOne}
+use Rattle.syn_ty.proofs.ty_laws.words.Forms.{Plus}
+use Rattle.syn_ty.proofs.ty_laws.words.Types.{IsType, Manner, loosely, clearly, Relation}
 use Rattle.token_core.specs.Fronted.{FrontLaws}
-use Rattle.token_core.specs.Prints.{Print}
-use Rattle.token_core.specs.Reads.{Reader, is_done}
-use Rattle.token_core.specs.Rebuilt.{Visible}
-use Rattle.token_core.specs.Stream.{Stream}
 use Rattle.token_core.specs.Tokens as token
-use Rattle.token_core.specs.Toks.{Toks, done}
 use Rattle.token_core.proofs.Steps.{Reads_to}
 use Rattle.token_core.proofs.Took.{at}
-use Rattle.syn_path.specs.Took.{TookOne}
 use Rattle.syn_path.specs.Traits.{Attributes, Expressions}
-use Rattle.syn_forms.specs.declared.places.TypePlace.TheVariants.{Plus}
-use Rattle.syn_ty.specs.ty.Admitted.{IsType}
-use Rattle.syn_ty.specs.ty.Parts.{Manner, loosely, clearly}
 use Rattle.syn_ty.specs.ty.Promises as promises
 use Rattle.syn_ty.specs.ty.Promises.{follows_type, fronting, promise}
-use Rattle.syn_ty.specs.ty.Spelling.{Relation}
 use Rattle.syn_ty.specs.ty.Spelt as by
 use Rattle.syn_ty.proofs.ty_laws.complete.Alone.{ty_met}
 use Rattle.syn_ty.proofs.ty_laws.sound.Alone.{begun_ending, ty_took}

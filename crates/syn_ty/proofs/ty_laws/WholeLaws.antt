@@ -1,18 +1,14 @@
 -- Each grammar of this layer meets its laws, where those of attributes and expressions are given: its read is sound and complete, and what it spells plainly is reprinted.
 use Rattle.std.proofs.Common.{◌≡◌, true, false, List, Option}
-use Rattle.token_core.specs.declared.span.Span.{Span}
+use Rattle.syn_ty.proofs.ty_laws.words.Tokens.{Span, Print, Reader, Scope, Toks}
+use Rattle.syn_ty.proofs.ty_laws.words.Paths.{AttributeLaws}
+use Rattle.syn_ty.proofs.ty_laws.words.Forms.{TypePlace}
+use Rattle.syn_ty.proofs.ty_laws.words.Types.{Manner, loosely, clearly}
 use Rattle.token_core.specs.Headline.{Lawful}
-use Rattle.token_core.specs.Prints.{Print}
-use Rattle.token_core.specs.Reads.{Reader}
-use Rattle.token_core.specs.Stream.{Scope}
 use Rattle.token_core.specs.Tokens as token
-use Rattle.token_core.specs.Toks.{Toks}
 use Rattle.token_core.proofs.Steps.{Reads_to}
-use Rattle.syn_path.specs.Lengths.{AttributeLaws}
 use Rattle.syn_path.specs.Traits.{Attributes, Expressions}
 use Rattle.syn_path.proofs.Words.{AgainFront}
-use Rattle.syn_forms.specs.declared.places.TypePlace.{TypePlace}
-use Rattle.syn_ty.specs.ty.Parts.{Manner, loosely, clearly}
 use Rattle.syn_ty.specs.ty.Promises as promises
 use Rattle.syn_ty.specs.ty.Promises.{promise}
 use Rattle.syn_ty.specs.ty.Spelt as by
