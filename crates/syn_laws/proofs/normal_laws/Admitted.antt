@@ -80,7 +80,7 @@ module _ {X : Type 0} (sub : Subtree X)
 module _ {A E : Type 0} (attrs : Attributes A) (exprs : Expressions E) (g : Given attrs.reads exprs.reads attrs.spells exprs.spells) (m : GivenMeets attrs.reads exprs.reads attrs.spells exprs.spells)
     (a : GivenAgain attrs.normal exprs.normal attrs.shown exprs.values attrs.spells exprs.spells) where
   pub ty_admitted : (x : TypeTree A E) (place : TypePlace) → Admitted (types.ty attrs exprs place) x
-  ty_admitted x place = admitted (types.ty attrs exprs place) (ty_lawful g m a place) x
+  ty_admitted x place = admitted (types.ty attrs exprs place) (ty_lawful attrs exprs g m a place) x
 
   pub generics_admitted : (x : GenericsOf A E) → Admitted (generics.generics attrs exprs) x
-  generics_admitted = admitted (generics.generics attrs exprs) (generics_lawful g m a)
+  generics_admitted = admitted (generics.generics attrs exprs) (generics_lawful attrs exprs g m a)

@@ -1,5 +1,5 @@
 -- For each reader, what its whole read promises aside from spans.
-use Rattle.std.specs.Prelude.{option_map}
+use Rattle.std.specs.Prelude.{List, option_map}
 use Rattle.token_core.specs.Prints.{Print}
 use Rattle.syn_path.specs.mac.Grammars as macros
 use Rattle.syn_path.specs.path.Grammars as paths
@@ -40,7 +40,7 @@ pub record ModPaths {G : Type 0} (none : G) (shown : G → Print) : Type 0 where
 
 -- ---- over a supplied subtree
 
-module _ {X : Type 0} (sub : Subtree X) where
+module _ {X : Type 0} (sub : traits.Subtree X) where
   pub record Attributes : Type 0 where
     pub meta : Asides (attributes.meta sub) (free_attrs.meta sub.bare)
     pub name_value : Asides (attributes.name_value sub) (free_attrs.name_value sub.bare)
