@@ -163,7 +163,7 @@ def functions_of(module, lines):
             at += 1
             continue
         last = body
-        while lines[last] != f"{it[1]}}}":
+        while lines[last] not in (f"{it[1]}}}", f"{it[1]}{{}}"):
             last += 1
         found.append(Function(module, lines, at, body, last, blocks))
         at = last + 1
@@ -171,10 +171,10 @@ def functions_of(module, lines):
 
 
 def body_of(lines, head, indent):
-    """The line of a function's `{`, behind which its body begins; none where it has no body."""
+    """The line of a function's `{`, behind which its body begins, or of its `{}`; none where it has no body."""
     for at in range(head, len(lines)):
         line = lines[at]
-        if line == f"{indent}{{" or re.search(r"[)>\w] \{$|-> [^{}]* \{ let ", line) and not CLAUSE.match(line):
+        if line in (f"{indent}{{", f"{indent}{{}}") or re.search(r"[)>\w] \{$|-> [^{}]* \{ let ", line) and not CLAUSE.match(line):
             # (an edit may begin a body in the line of its head)
             return at
         if line.endswith(";") and (at == head or not line.startswith(f"{indent}     ")):
