@@ -31,7 +31,7 @@ pub trait Part: Sized + Drop {
 
 /// Outer attributes, before anything but a `#`.
 impl<A: Attributes> Part for Items<A> {
-    ghost front = { fronts.attrs A.reads A.spells A.normal A.shown };
+    ghost front = { fronts.attributes A.Attributes };
 
     fn read(alloc: Global, input: &mut ParseStream<'_>) -> Result<Items<A>, Error> {
         A::read_outer(alloc, input)
@@ -44,7 +44,7 @@ impl<A: Attributes> Part for Items<A> {
 
 /// The generics of a declaration.
 impl<A: Attributes, E: Value> Part for GenericsOf<A, E> {
-    ghost front = { fronts.generics A.reads E.reads A.spells E.spells A.normal E.normal A.shown E.values };
+    ghost front = { fronts.generics A.Attributes E.Value };
 
     fn read(alloc: Global, input: &mut ParseStream<'_>) -> Result<GenericsOf<A, E>, Error> {
         <GenericsOf<A, E> as Parse>::parse(alloc, input)
@@ -57,7 +57,7 @@ impl<A: Attributes, E: Value> Part for GenericsOf<A, E> {
 
 /// An optional where clause.
 impl<A: Attributes, E: Value> Part for Option<WhereClauseOf<A, E>> {
-    ghost front = { fronts.clause A.reads E.reads A.spells E.spells A.normal E.normal A.shown E.values };
+    ghost front = { fronts.clause A.Attributes E.Value };
 
     fn read(
         alloc: Global,
@@ -73,7 +73,7 @@ impl<A: Attributes, E: Value> Part for Option<WhereClauseOf<A, E>> {
 
 /// A type, before the end or a comma.
 impl<A: Attributes, E: Value> Part for TypeOf<A, E> {
-    ghost front = { fronts.ty A.reads E.reads A.spells E.spells A.normal E.normal A.shown E.values };
+    ghost front = { fronts.ty A.Attributes E.Value };
 
     fn read(alloc: Global, input: &mut ParseStream<'_>) -> Result<TypeOf<A, E>, Error> {
         <TypeOf<A, E> as Parse>::parse(alloc, input)

@@ -43,27 +43,19 @@ pub type ItemFieldOf<A, E> = FieldOf<Items<A>, TypeOf<A, E>>;
 /// It is refused where one of the parts is, and where neither braces nor a `;` follow: that refusal names both. What follows a field in
 /// the braces has to be a comma or their end. Of `syn::ItemStruct` without visibility, and without fields in parentheses.
 impl<A: Attributes, E: Value> Parse for StructItemOf<A, E> {
-    ghost reads = { Gives
-        (parts.item A.reads E.reads A.spells E.spells A.normal E.normal A.shown E.values).grammar.reader };
+    ghost reads = { Gives (parts.item A.Attributes E.Value).grammar.reader };
 
-    ghost refuses = { Fails
-        (parts.item A.reads E.reads A.spells E.spells A.normal E.normal A.shown E.values).grammar.reader };
+    ghost refuses = { Fails (parts.item A.Attributes E.Value).grammar.reader };
 
-    ghost promise = { Headline
-        (parts.item A.reads E.reads A.spells E.spells A.normal E.normal A.shown E.values).grammar };
+    ghost promise = { Headline (parts.item A.Attributes E.Value).grammar };
 
-    ghost fronts = { said (parts.item A.reads E.reads A.spells E.spells A.normal E.normal A.shown E.values) };
+    ghost fronts = { said (parts.item A.Attributes E.Value) };
 
     fn parse(alloc: Global, input: &mut ParseStream<'_>) -> Result<StructItemOf<A, E>, Error>
-        ensures reads { Reads
-            ((parts.item A.reads E.reads A.spells E.spells A.normal E.normal A.shown E.values).grammar.reader input.old)
-            result input.new }
+        ensures reads { Reads ((parts.item A.Attributes E.Value).grammar.reader input.old) result input.new }
         ensures within { Follows input.old input.new }
-        ensures promise { Heads
-            (parts.item A.reads E.reads A.spells E.spells A.normal E.normal A.shown E.values).grammar
-            input.old result input.new }
-        ensures fronts { Fronted (parts.item A.reads E.reads A.spells E.spells A.normal E.normal A.shown E.values)
-            input.old result input.new }
+        ensures promise { Heads (parts.item A.Attributes E.Value).grammar input.old result input.new }
+        ensures fronts { Fronted (parts.item A.Attributes E.Value) input.old result input.new }
     {
         parse_item(alloc, input)
     }

@@ -27,32 +27,32 @@ pub fn mod_paths_aside<A: Arguments>()
 
 /// Metas and attributes.
 pub fn attributes_aside<X: Subtree>()
-    ensures { readers.Attributes X.reads X.spells X.normal X.prints X.bare }
+    ensures { readers.Attributes X.Subtree }
 {}
 
 /// Paths with arguments.
 pub fn paths_aside<X: Subtree>()
-    ensures { readers.Paths X.reads X.spells X.normal X.prints X.bare }
+    ensures { readers.Paths X.Subtree }
 {}
 
 /// Types.
 pub fn types_aside<X: Subtree>()
-    ensures { readers.Types X.reads X.spells X.normal X.prints X.bare }
+    ensures { readers.Types X.Subtree }
 {}
 
 /// Parameters, binders and bounds.
 pub fn parameters_aside<X: Subtree>()
-    ensures { readers.Parameters X.reads X.spells X.normal X.prints X.bare }
+    ensures { readers.Parameters X.Subtree }
 {}
 
 /// Generics and where clauses.
 pub fn generics_aside<X: Subtree>()
-    ensures { readers.Generics X.reads X.spells X.normal X.prints X.bare }
+    ensures { readers.Generics X.Subtree }
 {}
 
 /// Patterns.
 pub fn patterns_aside<X: Subtree>()
-    ensures { readers.Patterns X.reads X.spells X.normal X.prints X.bare }
+    ensures { readers.Patterns X.Subtree }
 {}
 
 /// Tokens in the place of an expression.

@@ -40,7 +40,7 @@ use token_core::Items;
 
 /// The normal form of a meta.
 pub fn meta<X: Subtree>(tree: &Meta<X>)
-    ensures admitted { Admitted (grammars.meta X.reads X.spells X.normal X.prints) tree.now }
+    ensures admitted { Admitted (grammars.meta X.Subtree) tree.now }
     ensures stays { Own X.normal →
         normal.meta X.normal (normal.meta X.normal tree.now) ≡ normal.meta X.normal tree.now }
     ensures same { SamePrint X.normal X.prints →
@@ -49,8 +49,8 @@ pub fn meta<X: Subtree>(tree: &Meta<X>)
 
 /// The normal form of attributes.
 pub fn attributes<X: Subtree>(trees: &Items<Attribute<X>>)
-    ensures outer { Admitted (grammars.outer X.reads X.spells X.normal X.prints) trees.now }
-    ensures inner { Admitted (grammars.inner X.reads X.spells X.normal X.prints) trees.now }
+    ensures outer { Admitted (grammars.outer X.Subtree) trees.now }
+    ensures inner { Admitted (grammars.inner X.Subtree) trees.now }
     ensures stays { Own X.normal →
         normal.attributes X.normal (normal.attributes X.normal trees.now) ≡ normal.attributes X.normal trees.now }
     ensures same { SamePrint X.normal X.prints →
@@ -70,8 +70,7 @@ pub fn expression<X: Subtree>(tree: &Expr<X>)
 
 /// The normal form of a type.
 pub fn ty<A: Attributes, E: Value>(tree: &TypeOf<A, E>)
-    ensures admitted { (place : TypePlace) →
-        Admitted (types.ty A.reads E.reads A.spells E.spells A.normal E.normal A.shown E.values place) tree.now }
+    ensures admitted { (place : TypePlace) → Admitted (types.ty A.Attributes E.Value place) tree.now }
     ensures stays { OwnList A.normal → OwnValues E.normal →
         normal_types.ty A.normal E.normal (normal_types.ty A.normal E.normal tree.now)
         ≡ normal_types.ty A.normal E.normal tree.now }
@@ -82,8 +81,7 @@ pub fn ty<A: Attributes, E: Value>(tree: &TypeOf<A, E>)
 
 /// The normal form of generics.
 pub fn generics<A: Attributes, E: Value>(tree: &GenericsOf<A, E>)
-    ensures admitted { Admitted (promises.generics A.reads E.reads A.spells E.spells A.normal E.normal A.shown E.values)
-        tree.now }
+    ensures admitted { Admitted (promises.generics A.Attributes E.Value) tree.now }
     ensures stays { OwnList A.normal → OwnValues E.normal →
         normal_generics.generics A.normal E.normal (normal_generics.generics A.normal E.normal tree.now)
         ≡ normal_generics.generics A.normal E.normal tree.now }
@@ -94,23 +92,19 @@ pub fn generics<A: Attributes, E: Value>(tree: &GenericsOf<A, E>)
 
 /// The print of `ImplGenerics`, of generics that spell some list plainly: `Generics` reads it as the normal form of these without defaults and where clause.
 pub fn impl_generics<A: Attributes, E: Value>(tree: &GenericsOf<A, E>)
-    ensures again { (promises.generics A.reads E.reads A.spells E.spells A.normal E.normal A.shown E.values).plain
-        tree.now →
-        Reprinted (promises.generics A.reads E.reads A.spells E.spells A.normal E.normal A.shown E.values)
-        (stripped tree.now) }
+    ensures again { (promises.generics A.Attributes E.Value).plain tree.now →
+        Reprinted (promises.generics A.Attributes E.Value) (stripped tree.now) }
 {}
 
 /// The print of a where clause that spells some list plainly: an optional where clause reads it as the normal form, none without predicates.
 pub fn where_clause<A: Attributes, E: Value>(tree: &WhereClauseOf<A, E>)
-    ensures again { (promises.optional_where_clause A.reads E.reads
-        A.spells E.spells A.normal E.normal A.shown E.values).plain (Some tree.now) →
-        Reprinted (promises.optional_where_clause A.reads E.reads A.spells E.spells A.normal E.normal A.shown E.values)
-        (Some tree.now) }
+    ensures again { (promises.optional_where_clause A.Attributes E.Value).plain (Some tree.now) →
+        Reprinted (promises.optional_where_clause A.Attributes E.Value) (Some tree.now) }
 {}
 
 /// The normal form of a pattern.
 pub fn pat<X: Subtree>(tree: &Pat<X>)
-    ensures admitted { (place : PatPlace) → Admitted (patterns.pat X.reads X.spells X.normal X.prints place) tree.now }
+    ensures admitted { (place : PatPlace) → Admitted (patterns.pat X.Subtree place) tree.now }
     ensures stays { Own X.normal →
         normal_patterns.pat X.normal (normal_patterns.pat X.normal tree.now) ≡ normal_patterns.pat X.normal tree.now }
     ensures same { SamePrint X.normal X.prints →

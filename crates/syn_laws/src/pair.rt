@@ -46,9 +46,7 @@ pub fn parse_types<A: Attributes, E: Value>(
 ) -> Result<Pair<TypeOf<A, E>>, Error>
     ensures reads { Reads (pairs.read (knot.ty A.reads E.reads Plus) input.old) result input.new }
     ensures within { Follows input.old input.new }
-    ensures fronts { Fronted
-        (pairs.fronting (promises.ty_front A.reads E.reads A.spells E.spells A.normal E.normal A.shown E.values))
-        input.old result input.new }
+    ensures fronts { Fronted (pairs.fronting (promises.ty_front A.Attributes E.Value)) input.old result input.new }
 {
     parse_pair::<TypeOf<A, E>>(alloc, input)
 }

@@ -44,7 +44,7 @@ impl<X: Subtree> Parser for ParseSingle<X> {
 
     ghost refuses = { λ _. Fails {A = Pat X} (pats.pat X.reads (type_names X.reads) Single) };
 
-    ghost promise = { λ _. Headline (pat_promises.pat X.reads X.spells X.normal X.prints Single) };
+    ghost promise = { λ _. Headline (pat_promises.pat X.Subtree Single) };
 
     fn parse(self, alloc: Global, input: &mut ParseStream<'_>) -> Result<Pat<X>, Error> {
         Pat::parse_single(alloc, input)
@@ -74,7 +74,7 @@ impl<X: Subtree> Parser for ParseMulti<X> {
 
     ghost refuses = { λ _. Fails {A = Pat X} (pats.pat X.reads (type_names X.reads) Multi) };
 
-    ghost promise = { λ _. Headline (pat_promises.pat X.reads X.spells X.normal X.prints Multi) };
+    ghost promise = { λ _. Headline (pat_promises.pat X.Subtree Multi) };
 
     fn parse(self, alloc: Global, input: &mut ParseStream<'_>) -> Result<Pat<X>, Error> {
         Pat::parse_multi(alloc, input)
@@ -104,7 +104,7 @@ impl<X: Subtree> Parser for ParseMultiWithLeadingVert<X> {
 
     ghost refuses = { λ _. Fails {A = Pat X} (pats.pat X.reads (type_names X.reads) LeadingVert) };
 
-    ghost promise = { λ _. Headline (pat_promises.pat X.reads X.spells X.normal X.prints LeadingVert) };
+    ghost promise = { λ _. Headline (pat_promises.pat X.Subtree LeadingVert) };
 
     fn parse(self, alloc: Global, input: &mut ParseStream<'_>) -> Result<Pat<X>, Error> {
         Pat::parse_multi_with_leading_vert(alloc, input)
@@ -134,7 +134,7 @@ impl<X: Subtree> Parser for ParseMultiWithLeadingVertAndGuard<X> {
 
     ghost refuses = { λ _. Fails {A = Pat X} (pats.guarded X.reads (type_names X.reads)) };
 
-    ghost promise = { λ _. Headline (pat_promises.guarded X.reads X.spells X.normal X.prints) };
+    ghost promise = { λ _. Headline (pat_promises.guarded X.Subtree) };
 
     fn parse(self, alloc: Global, input: &mut ParseStream<'_>) -> Result<Pat<X>, Error> {
         Pat::parse_multi_with_leading_vert_and_guard(alloc, input)

@@ -79,7 +79,7 @@ impl<X: Subtree> Parser for ParseOuter<X> {
 
     ghost refuses = { λ _. Fails (attrs.outer X.reads) };
 
-    ghost promise = { λ _. Headline (grammars.outer X.reads X.spells X.normal X.prints) };
+    ghost promise = { λ _. Headline (grammars.outer X.Subtree) };
 
     fn parse(
         self,
@@ -113,7 +113,7 @@ impl<X: Subtree> Parser for ParseInner<X> {
 
     ghost refuses = { λ _. Fails (attrs.inner X.reads) };
 
-    ghost promise = { λ _. Headline (grammars.inner X.reads X.spells X.normal X.prints) };
+    ghost promise = { λ _. Headline (grammars.inner X.Subtree) };
 
     fn parse(
         self,
@@ -150,8 +150,7 @@ impl<A: Attributes, E: Value> Parser for WithoutPlusOf<A, E> {
 
     ghost refuses = { λ _. Fails (knot.ty A.reads E.reads NoPlus) };
 
-    ghost promise = { λ _. Headline
-        (promises.ty A.reads E.reads A.spells E.spells A.normal E.normal A.shown E.values NoPlus) };
+    ghost promise = { λ _. Headline (promises.ty A.Attributes E.Value NoPlus) };
 
     fn parse(self, alloc: Global, input: &mut ParseStream<'_>) -> Result<TypeOf<A, E>, Error> {
         TypeOf::without_plus(alloc, input)
@@ -184,8 +183,7 @@ impl<A: Attributes, E: Value> Parser for ReturnWithoutPlusOf<A, E> {
 
     ghost refuses = { λ _. Fails (knot.return_type A.reads E.reads NoPlus) };
 
-    ghost promise = { λ _. Headline
-        (promises.return_type A.reads E.reads A.spells E.spells A.normal E.normal A.shown E.values NoPlus) };
+    ghost promise = { λ _. Headline (promises.return_type A.Attributes E.Value NoPlus) };
 
     fn parse(
         self,
@@ -222,8 +220,7 @@ impl<A: Attributes, E: Value> Parser for ObjectWithoutPlusOf<A, E> {
 
     ghost refuses = { λ _. Fails (knot.trait_object A.reads E.reads false) };
 
-    ghost promise = { λ _. Headline
-        (promises.trait_object A.reads E.reads A.spells E.spells A.normal E.normal A.shown E.values NoPlus) };
+    ghost promise = { λ _. Headline (promises.trait_object A.Attributes E.Value NoPlus) };
 
     fn parse(
         self,
@@ -260,8 +257,7 @@ impl<A: Attributes, E: Value> Parser for ImplWithoutPlusOf<A, E> {
 
     ghost refuses = { λ _. Fails (knot.impl_trait A.reads E.reads false) };
 
-    ghost promise = { λ _. Headline
-        (promises.impl_trait A.reads E.reads A.spells E.spells A.normal E.normal A.shown E.values NoPlus) };
+    ghost promise = { λ _. Headline (promises.impl_trait A.Attributes E.Value NoPlus) };
 
     fn parse(
         self,
@@ -298,8 +294,7 @@ impl<A: Attributes, E: Value> Parser for ParseTurbofishOf<A, E> {
 
     ghost refuses = { λ _. Fails (knot.turbofish A.reads E.reads) };
 
-    ghost promise = { λ _. Headline
-        (promises.turbofish A.reads E.reads A.spells E.spells A.normal E.normal A.shown E.values) };
+    ghost promise = { λ _. Headline (promises.turbofish A.Attributes E.Value) };
 
     fn parse(
         self,
@@ -336,8 +331,7 @@ impl<A: Attributes, E: Value> Parser for ParseOptionalLifetimesOf<A, E> {
 
     ghost refuses = { λ _. Fails (knot.optional_binder A.reads E.reads) };
 
-    ghost promise = { λ _. Headline
-        (promises.optional_binder A.reads E.reads A.spells E.spells A.normal E.normal A.shown E.values) };
+    ghost promise = { λ _. Headline (promises.optional_binder A.Attributes E.Value) };
 
     fn parse(
         self,
@@ -374,8 +368,7 @@ impl<A: Attributes, E: Value> Parser for ParseOptionalWhereOf<A, E> {
 
     ghost refuses = { λ _. Fails (alone.optional_where_clause A.reads E.reads) };
 
-    ghost promise = { λ _. Headline (generics_promises.optional_where_clause A.reads E.reads A.spells E.spells
-        A.normal E.normal A.shown E.values) };
+    ghost promise = { λ _. Headline (generics_promises.optional_where_clause A.Attributes E.Value) };
 
     fn parse(
         self,

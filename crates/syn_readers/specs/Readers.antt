@@ -1,5 +1,5 @@
 -- The readers of types, paths and generics, and what is said of any reader.
-use Rattle.std.specs.Prelude.{◌≡◌, ◌≢◌, Bool, true, List, Option, Some, None, Result, Ok, Err}
+use Rattle.std.specs.Prelude.{◌≡◌, ◌≢◌, true, List, Option, Some, None, Result, Ok, Err}
 use Rattle.token_core.specs.declared.error.ErrorKind.TheVariants.{OutOfMemory}
 use Rattle.token_core.specs.Toks.{Toks}
 use Rattle.token_core.specs.Trees.{TokenStream, trees}
@@ -29,7 +29,8 @@ use Rattle.syn_forms.specs.declared.places.TypePlace.TheVariants.{Plus, NoPlus}
 use Rattle.syn_ty.specs.declared.ty.TypeInferOf as infer
 use Rattle.syn_ty.specs.declared.ty.TypeMacroOf as macro
 use Rattle.syn_ty.specs.declared.ty.TypeNeverOf as never
-use Rattle.syn_path.specs.Values.{NormalValues, ReadValues, SpelledValues, Values}
+use Rattle.syn_path.specs.Traits.{Attributes, Expressions}
+use Rattle.syn_path.specs.Values.{Values}
 use Rattle.syn_readers.specs.declared.by_name.TypeReader.{TypeReader}
 use Rattle.syn_readers.specs.declared.by_name.TypeReader.TheVariants as t
 use Rattle.syn_readers.specs.declared.by_name.PathReader.{PathReader}
@@ -127,58 +128,58 @@ GenericsTree A E g.WhereClause = WhereClauseOf A E
 GenericsTree A E g.OptionalWhereClause = Option (WhereClauseOf A E)
 GenericsTree A E g.Predicate = WherePredicateOf A E
 
-module _ {A E : Type 0} (attrs : R (List A)) (values : ReadValues E) (sa : Bool → List A → Toks → Toks → Type 0) (se : SpelledValues E) (na : List A → List A) (ne : NormalValues E) (pa : List A → Print) (pe : Values E) where
+module _ {A E : Type 0} (attrs : Attributes A) (exprs : Expressions E) where
   abbrev pub types_category : (r : TypeReader) → Category (TypesTree A E r)
-  types_category t.Any = of_grammar (promises.ty attrs values sa se na ne pa pe Plus)
-  types_category t.WithoutPlus = of_grammar (promises.ty attrs values sa se na ne pa pe NoPlus)
-  types_category t.Array = of_grammar (promises.array attrs values sa se na ne pa pe)
-  types_category t.FnPtr = of_grammar (promises.fn_ptr attrs values sa se na ne pa pe)
-  types_category t.Group = of_grammar (promises.group attrs values sa se na ne pa pe)
-  types_category t.ImplTrait = of_grammar (promises.impl_trait attrs values sa se na ne pa pe Plus)
-  types_category t.ImplWithoutPlus = of_grammar (promises.impl_trait attrs values sa se na ne pa pe NoPlus)
-  types_category t.Infer = of_grammar (types.infer na)
-  types_category t.Macro = of_grammar (types.macro_type na)
-  types_category t.Never = of_grammar (types.never na)
-  types_category t.Paren = of_grammar (promises.paren attrs values sa se na ne pa pe)
-  types_category t.Path = of_grammar (promises.path_type attrs values sa se na ne pa pe)
-  types_category t.Ptr = of_grammar (promises.ptr attrs values sa se na ne pa pe)
-  types_category t.Reference = of_grammar (promises.reference attrs values sa se na ne pa pe)
-  types_category t.Slice = of_grammar (promises.slice attrs values sa se na ne pa pe)
-  types_category t.TraitObject = of_grammar (promises.trait_object attrs values sa se na ne pa pe Plus)
-  types_category t.ObjectWithoutPlus = of_grammar (promises.trait_object attrs values sa se na ne pa pe NoPlus)
-  types_category t.Tuple = of_grammar (promises.tuple attrs values sa se na ne pa pe)
-  types_category t.Return = of_grammar (promises.return_type attrs values sa se na ne pa pe Plus)
-  types_category t.ReturnWithoutPlus = of_grammar (promises.return_type attrs values sa se na ne pa pe NoPlus)
-  types_category t.NamedArg = of_grammar (promises.named_arg attrs values sa se na ne pa pe)
+  types_category t.Any = of_grammar (promises.ty attrs exprs Plus)
+  types_category t.WithoutPlus = of_grammar (promises.ty attrs exprs NoPlus)
+  types_category t.Array = of_grammar (promises.array attrs exprs)
+  types_category t.FnPtr = of_grammar (promises.fn_ptr attrs exprs)
+  types_category t.Group = of_grammar (promises.group attrs exprs)
+  types_category t.ImplTrait = of_grammar (promises.impl_trait attrs exprs Plus)
+  types_category t.ImplWithoutPlus = of_grammar (promises.impl_trait attrs exprs NoPlus)
+  types_category t.Infer = of_grammar (types.infer attrs.normal)
+  types_category t.Macro = of_grammar (types.macro_type attrs.normal)
+  types_category t.Never = of_grammar (types.never attrs.normal)
+  types_category t.Paren = of_grammar (promises.paren attrs exprs)
+  types_category t.Path = of_grammar (promises.path_type attrs exprs)
+  types_category t.Ptr = of_grammar (promises.ptr attrs exprs)
+  types_category t.Reference = of_grammar (promises.reference attrs exprs)
+  types_category t.Slice = of_grammar (promises.slice attrs exprs)
+  types_category t.TraitObject = of_grammar (promises.trait_object attrs exprs Plus)
+  types_category t.ObjectWithoutPlus = of_grammar (promises.trait_object attrs exprs NoPlus)
+  types_category t.Tuple = of_grammar (promises.tuple attrs exprs)
+  types_category t.Return = of_grammar (promises.return_type attrs exprs Plus)
+  types_category t.ReturnWithoutPlus = of_grammar (promises.return_type attrs exprs NoPlus)
+  types_category t.NamedArg = of_grammar (promises.named_arg attrs exprs)
   types_category t.Abi = of_grammar promises.abi
   types_category t.OptionalAbi = of_grammar promises.optional_abi
 
   abbrev pub paths_category : (r : PathReader) → Category (PathsTree A E r)
-  paths_category p.Whole = of_grammar (promises.path attrs values sa se na ne pa pe)
-  paths_category p.Segment = of_grammar (promises.segment attrs values sa se na ne pa pe)
-  paths_category p.Argument = of_grammar (promises.argument attrs values sa se na ne pa pe)
-  paths_category p.AngleBracketed = of_grammar (promises.angle attrs values sa se na ne pa pe)
-  paths_category p.ParseTurbofish = of_grammar (promises.turbofish attrs values sa se na ne pa pe)
-  paths_category p.Parenthesized = of_grammar (promises.parenthesized attrs values sa se na ne pa pe)
+  paths_category p.Whole = of_grammar (promises.path attrs exprs)
+  paths_category p.Segment = of_grammar (promises.segment attrs exprs)
+  paths_category p.Argument = of_grammar (promises.argument attrs exprs)
+  paths_category p.AngleBracketed = of_grammar (promises.angle attrs exprs)
+  paths_category p.ParseTurbofish = of_grammar (promises.turbofish attrs exprs)
+  paths_category p.Parenthesized = of_grammar (promises.parenthesized attrs exprs)
 
   abbrev pub generics_category : (r : GenericsReader) → Category (GenericsTree A E r)
-  generics_category g.Param = of_grammar (promises.param attrs values sa se na ne pa pe)
-  generics_category g.LifetimeParam = of_grammar (promises.lifetime_param attrs sa na pa)
-  generics_category g.TypeParam = of_grammar (promises.type_param attrs values sa se na ne pa pe)
-  generics_category g.ConstParam = of_grammar (promises.const_param attrs values sa se na ne pa pe)
-  generics_category g.BoundLifetimes = of_grammar (promises.binder attrs values sa se na ne pa pe)
-  generics_category g.OptionalBoundLifetimes = of_grammar (promises.optional_binder attrs values sa se na ne pa pe)
-  generics_category g.Bound = of_grammar (promises.bound attrs values sa se na ne pa pe)
-  generics_category g.TraitBound = of_grammar (promises.trait_bound attrs values sa se na ne pa pe)
+  generics_category g.Param = of_grammar (promises.param attrs exprs)
+  generics_category g.LifetimeParam = of_grammar (promises.lifetime_param attrs)
+  generics_category g.TypeParam = of_grammar (promises.type_param attrs exprs)
+  generics_category g.ConstParam = of_grammar (promises.const_param attrs exprs)
+  generics_category g.BoundLifetimes = of_grammar (promises.binder attrs exprs)
+  generics_category g.OptionalBoundLifetimes = of_grammar (promises.optional_binder attrs exprs)
+  generics_category g.Bound = of_grammar (promises.bound attrs exprs)
+  generics_category g.TraitBound = of_grammar (promises.trait_bound attrs exprs)
   generics_category g.Capture = of_grammar promises.capture
   generics_category g.Captured = of_grammar promises.captured
-  generics_category g.Declared = of_grammar (generics_promises.generics attrs values sa se na ne pa pe)
-  generics_category g.ImplGenerics = of_tree_view (generics_promises.generics attrs values sa se na ne pa pe) views.stripped
-  generics_category g.TypeGenerics = of_view (generics_promises.generics attrs values sa se na ne pa pe) views.names
-  generics_category g.Turbofish = of_view (generics_promises.generics attrs values sa se na ne pa pe) views.turbofish
-  generics_category g.WhereClause = of_grammar (generics_promises.where_clause attrs values sa se na ne pa pe)
-  generics_category g.OptionalWhereClause = of_grammar (generics_promises.optional_where_clause attrs values sa se na ne pa pe)
-  generics_category g.Predicate = of_grammar (generics_promises.predicate attrs values sa se na ne pa pe)
+  generics_category g.Declared = of_grammar (generics_promises.generics attrs exprs)
+  generics_category g.ImplGenerics = of_tree_view (generics_promises.generics attrs exprs) views.stripped
+  generics_category g.TypeGenerics = of_view (generics_promises.generics attrs exprs) views.names
+  generics_category g.Turbofish = of_view (generics_promises.generics attrs exprs) views.turbofish
+  generics_category g.WhereClause = of_grammar (generics_promises.where_clause attrs exprs)
+  generics_category g.OptionalWhereClause = of_grammar (generics_promises.optional_where_clause attrs exprs)
+  generics_category g.Predicate = of_grammar (generics_promises.predicate attrs exprs)
 
 -- A read answers the print of the tree that the read of the category answers, and leaves the stream where that does.
 abbrev pub Shows : {A : Type 0} → Category A → Stream → TokenStream → Stream → Type 0

@@ -102,9 +102,7 @@ impl TypeReader {
         scope: Span,
         tokens: TokenStream,
     ) -> Result<TokenStream, Error>
-        ensures { spec.Reprints
-            (spec.types_category A.reads E.reads A.spells E.spells A.normal E.normal A.shown E.values self) scope
-            (toks tokens) result }
+        ensures { spec.Reprints (spec.types_category A.Attributes E.Value self) scope (toks tokens) result }
     {
         match self {
             TypeReader::Any => reprint::<TypeOf<A, E>>(alloc, scope, tokens),
@@ -168,9 +166,7 @@ impl PathReader {
         scope: Span,
         tokens: TokenStream,
     ) -> Result<TokenStream, Error>
-        ensures { spec.Reprints
-            (spec.paths_category A.reads E.reads A.spells E.spells A.normal E.normal A.shown E.values self) scope
-            (toks tokens) result }
+        ensures { spec.Reprints (spec.paths_category A.Attributes E.Value self) scope (toks tokens) result }
     {
         match self {
             PathReader::Whole => reprint::<PathOf<PathArgumentsOf<A, E>>>(alloc, scope, tokens),
@@ -202,9 +198,7 @@ impl GenericsReader {
         scope: Span,
         tokens: TokenStream,
     ) -> Result<TokenStream, Error>
-        ensures { spec.Reprints
-            (spec.generics_category A.reads E.reads A.spells E.spells A.normal E.normal A.shown E.values self) scope
-            (toks tokens) result }
+        ensures { spec.Reprints (spec.generics_category A.Attributes E.Value self) scope (toks tokens) result }
     {
         match self {
             GenericsReader::Param => reprint::<GenericParamOf<A, E>>(alloc, scope, tokens),
@@ -292,8 +286,8 @@ fn reprint_impl_generics<A: Attributes, E: Value>(
     tokens: TokenStream,
 ) -> Result<TokenStream, Error>
     ensures { spec.Prints (Gives (alone.generics A.reads E.reads)) (Fails (alone.generics A.reads E.reads))
-        (Headline (promises.generics A.reads E.reads A.spells E.spells A.normal E.normal A.shown E.values))
-        (spec.impl_generics A.shown E.values) scope (toks tokens) result }
+        (Headline (promises.generics A.Attributes E.Value)) (spec.impl_generics A.shown E.values)
+        scope (toks tokens) result }
 {
     let generics = taken(alloc, ByParse::<GenericsOf<A, E>>::new(), scope, tokens)?;
     let (impl_generics, _, _) = generics.split_for_impl();
@@ -307,8 +301,7 @@ fn reprint_type_generics<A: Attributes, E: Value>(
     tokens: TokenStream,
 ) -> Result<TokenStream, Error>
     ensures { spec.Prints (Gives (alone.generics A.reads E.reads)) (Fails (alone.generics A.reads E.reads))
-        (Headline (promises.generics A.reads E.reads A.spells E.spells A.normal E.normal A.shown E.values)) views.names
-        scope (toks tokens) result }
+        (Headline (promises.generics A.Attributes E.Value)) views.names scope (toks tokens) result }
 {
     let generics = taken(alloc, ByParse::<GenericsOf<A, E>>::new(), scope, tokens)?;
     let (_, type_generics, _) = generics.split_for_impl();
@@ -322,8 +315,7 @@ fn reprint_turbofish<A: Attributes, E: Value>(
     tokens: TokenStream,
 ) -> Result<TokenStream, Error>
     ensures { spec.Prints (Gives (alone.generics A.reads E.reads)) (Fails (alone.generics A.reads E.reads))
-        (Headline (promises.generics A.reads E.reads A.spells E.spells A.normal E.normal A.shown E.values))
-        views.turbofish scope (toks tokens) result }
+        (Headline (promises.generics A.Attributes E.Value)) views.turbofish scope (toks tokens) result }
 {
     let generics = taken(alloc, ByParse::<GenericsOf<A, E>>::new(), scope, tokens)?;
     let (_, type_generics, _) = generics.split_for_impl();

@@ -1,11 +1,10 @@
 -- The readers of items.
-use Rattle.std.specs.Prelude.{Bool, List, codes}
+use Rattle.std.specs.Prelude.{List, codes}
 use Rattle.token_core.specs.Prints.{Print}
-use Rattle.token_core.specs.Reads.{Reader as R}
 use Rattle.token_core.specs.Spans.{none}
-use Rattle.token_core.specs.Toks.{Toks}
 use Rattle.token_core.specs.Trees.{ident}
-use Rattle.syn_path.specs.Values.{NormalValues, ReadValues, SpelledValues, Values}
+use Rattle.syn_path.specs.Traits.{Attributes, Expressions}
+use Rattle.syn_path.specs.Values.{Values}
 use Rattle.syn_ty.specs.path.Paths.{lone, no_arguments, segment_of}
 use Rattle.syn_ty.specs.ty.Trees.{Path}
 use Rattle.syn_readers.specs.Readers.{Category, of_grammar, of_view}
@@ -28,7 +27,7 @@ abbrev pub ItemsTree : Type 0 → Type 0 → ItemReader → Type 0
 ItemsTree A E i.Struct = Item A E
 ItemsTree A E i.Head = Item A E
 
-module _ {A E : Type 0} (attrs : R (List A)) (values : ReadValues E) (sa : Bool → List A → Toks → Toks → Type 0) (se : SpelledValues E) (na : List A → List A) (ne : NormalValues E) (pa : List A → Print) (pe : Values E) where
+module _ {A E : Type 0} (attrs : Attributes A) (exprs : Expressions E) where
   abbrev pub items_category : (r : ItemReader) → Category (ItemsTree A E r)
-  items_category i.Struct = of_grammar (parts.item attrs values sa se na ne pa pe).grammar
-  items_category i.Head = of_view (parts.item attrs values sa se na ne pa pe).grammar (marker_head pa pe)
+  items_category i.Struct = of_grammar (parts.item attrs exprs).grammar
+  items_category i.Head = of_view (parts.item attrs exprs).grammar (marker_head attrs.shown exprs.values)

@@ -1,6 +1,5 @@
 -- What each reader that a run knows reads, prints and promises.
-use Rattle.std.specs.Prelude.{◌≡◌, Bool, List, [], Ok}
-use Rattle.token_core.specs.Toks.{Toks}
+use Rattle.std.specs.Prelude.{◌≡◌, List, [], Ok}
 use Rattle.token_core.specs.Trees.{TokenStream, trees}
 use Rattle.token_core.specs.Prints.{Print}
 use Rattle.token_core.specs.Reads.{Reader as R}
@@ -17,13 +16,9 @@ use Rattle.syn_forms.specs.tokens.Grammars as tokens
 use Rattle.syn_attr.specs.attr.Attrs.{Attribute}
 use Rattle.syn_attr.specs.attr.Grammars as attrs
 use Rattle.syn_attr.specs.attr.Printing as attr_printing
-use Rattle.syn_attr.specs.attr.Reading as attr_reading
-use Rattle.syn_attr.specs.attr.Normal as normal
-use Rattle.syn_attr.specs.attr.Lengths.{lens, spells_len}
-use Rattle.syn_attr.specs.attr.Spelling.{AreAll, IsConst, IsConstDefault, IsOuter}
+use Rattle.syn_attr.specs.attr.Traits as given
 use Rattle.syn_attr.specs.declared.expr.Expr.{Expr}
-use Rattle.syn_path.specs.Values.{ReadValues, SpelledValues}
-use Rattle.syn_attr.specs.attr.Consts.{normal_values_of, values_of, outer}
+use Rattle.syn_path.specs.Traits.{Attributes, Expressions, Subtree}
 use Rattle.syn_path.specs.mac.Grammars as macs
 use Rattle.syn_path.specs.path.Grammars as paths
 use Rattle.syn_ty.specs.path.Paths as path
@@ -32,11 +27,7 @@ use Rattle.syn_run.specs.declared.readers.Reader.TheVariants.{Macro, ModStyle, M
 use Rattle.syn_run.specs.declared.readers.PatternReader.{PatternReader}
 use Rattle.syn_run.specs.declared.readers.PatternReader.TheVariants as q
 use Rattle.syn_readers.specs.Readers.{Category, of_grammar, TypesTree, PathsTree, GenericsTree, types_category, paths_category, generics_category}
-use Rattle.syn_readers.specs.declared.by_name.TypeReader.{TypeReader}
-use Rattle.syn_readers.specs.declared.by_name.PathReader.{PathReader}
-use Rattle.syn_readers.specs.declared.by_name.GenericsReader.{GenericsReader}
 use Rattle.syn_run.specs.Items.{ItemsTree, items_category}
-use Rattle.syn_run.specs.declared.items.ItemReader.{ItemReader}
 
 -- the trees of a reader of patterns, over a supplied subtree
 abbrev pub PatternsTree : Type 0 → PatternReader → Type 0
@@ -44,11 +35,11 @@ PatternsTree X (q.In place) = pats.Pat X
 PatternsTree X q.Guarded = pats.Pat X
 PatternsTree X q.Typed = pats.PatType X
 
-module _ {X : Type 0} (reads : Place → R X) (spells : Place → X → Toks → Type 0) (normals : Place → X → X) (prints : Place → X → Print) where
+module _ {X : Type 0} (sub : Subtree X) where
   abbrev pub patterns_category : (r : PatternReader) → Category (PatternsTree X r)
-  patterns_category (q.In place) = of_grammar (pat_promises.pat reads spells normals prints place)
-  patterns_category q.Guarded = of_grammar (pat_promises.guarded reads spells normals prints)
-  patterns_category q.Typed = of_grammar (pat_promises.typed reads spells normals prints)
+  patterns_category (q.In place) = of_grammar (pat_promises.pat sub place)
+  patterns_category q.Guarded = of_grammar (pat_promises.guarded sub)
+  patterns_category q.Typed = of_grammar (pat_promises.typed sub)
 
 -- what a reader of patterns shows: the print of the tree that its read answers
 abbrev pub shows : {A : Type 0} → R A → (A → Print) → Stream → TokenStream → Stream → Type 0
@@ -74,33 +65,26 @@ Tree X (Patterns r) = PatternsTree X r
 abbrev pub attributes : {X : Type 0} → (Place → X → Print) → List (Attribute X) → Print
 attributes = attr_printing.attributes
 
-module _ {X : Type 0} (reads : Place → R X) (spells : Place → X → Toks → Type 0) (normals : Place → X → X) (prints : Place → X → Print) where
-  -- what attributes and expressions read
-  abbrev pub read_attributes : R (List (Attribute X))
-  read_attributes = attr_reading.outer reads
+module _ {X : Type 0} (sub : Subtree X) where
+  -- attributes and expressions in types
+  abbrev pub attributes_in : Attributes (Attribute X)
+  attributes_in = given.attributes sub
 
-  abbrev pub read_values : ReadValues (Expr X)
-  read_values = record { len = lens reads; const_argument = attr_reading.const_argument reads }
+  abbrev pub expressions_in : Expressions (Expr X)
+  expressions_in = given.expressions sub
 
-  -- what they spell
-  abbrev pub spelt_attributes : Bool → List (Attribute X) → Toks → Toks → Type 0
-  spelt_attributes clear = AreAll (IsOuter spells clear)
-
-  abbrev pub spelt_values : SpelledValues (Expr X)
-  spelt_values = record { len = spells_len spells; const_argument = λ clear. IsConst spells; const_default = λ clear. IsConstDefault spells }
-
-  -- what a reader reads, prints and promises
+  -- what a reader sub.reads, sub.prints and promises
   abbrev pub category : (r : Reader) → Category (Tree X r)
   category Macro = of_grammar macs.mac
   category ModStyle = of_grammar (paths.mod_style path.nothing (λ a. []))
-  category Meta = of_grammar (attrs.meta reads spells normals prints)
+  category Meta = of_grammar (attrs.meta sub)
   category MetaList = of_grammar attrs.list
-  category MetaNameValue = of_grammar (attrs.name_value reads spells normals prints)
-  category Outer = of_grammar (attrs.outer reads spells normals prints)
-  category Inner = of_grammar (attrs.inner reads spells normals prints)
+  category MetaNameValue = of_grammar (attrs.name_value sub)
+  category Outer = of_grammar (attrs.outer sub)
+  category Inner = of_grammar (attrs.inner sub)
   category PointerMutability = of_grammar tokens.mutability
-  category (Types r) = types_category read_attributes read_values spelt_attributes spelt_values (normal.attributes normals) (normal_values_of normals) (outer prints) (values_of prints) r
-  category (Paths r) = paths_category read_attributes read_values spelt_attributes spelt_values (normal.attributes normals) (normal_values_of normals) (outer prints) (values_of prints) r
-  category (Generics r) = generics_category read_attributes read_values spelt_attributes spelt_values (normal.attributes normals) (normal_values_of normals) (outer prints) (values_of prints) r
-  category (Items r) = items_category read_attributes read_values spelt_attributes spelt_values (normal.attributes normals) (normal_values_of normals) (outer prints) (values_of prints) r
-  category (Patterns r) = patterns_category reads spells normals prints r
+  category (Types r) = types_category attributes_in expressions_in r
+  category (Paths r) = paths_category attributes_in expressions_in r
+  category (Generics r) = generics_category attributes_in expressions_in r
+  category (Items r) = items_category attributes_in expressions_in r
+  category (Patterns r) = patterns_category sub r

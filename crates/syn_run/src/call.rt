@@ -35,7 +35,7 @@ pub struct Call {
 /// Reads all of a text by the reader of this name, over any supplied subtree, and writes the text of the print of what was read to the front
 /// of the room, or why there is none.
 pub fn read_into<X: Subtree>(alloc: Global, name: &[u8], text: &[u8], out: &mut [u8]) -> Call
-    ensures { spec.Reads (category X.reads X.spells X.normal X.prints) name.now text.now out.old out.new result }
+    ensures { spec.Reads (category X.Subtree) name.now text.now out.old out.new result }
 {
     match str::from_utf8(name) {
         Ok(name) => read_named::<X>(alloc, name, text, out),
@@ -44,8 +44,7 @@ pub fn read_into<X: Subtree>(alloc: Global, name: &[u8], text: &[u8], out: &mut 
 }
 
 fn read_named<X: Subtree>(alloc: Global, name: &str, text: &[u8], out: &mut [u8]) -> Call
-    ensures { spec.Calls (spec.Comes (category X.reads X.spells X.normal X.prints) (named name.now) text.now) text.now
-        out.old out.new result }
+    ensures { spec.Calls (spec.Comes (category X.Subtree) (named name.now) text.now) text.now out.old out.new result }
 {
     match (Reader::named(name), str::from_utf8(text)) {
         (Some(reader), Ok(text)) => read_by::<X>(alloc, reader, text, out),
@@ -55,8 +54,7 @@ fn read_named<X: Subtree>(alloc: Global, name: &str, text: &[u8], out: &mut [u8]
 }
 
 fn read_by<X: Subtree>(alloc: Global, reader: Reader, text: &str, out: &mut [u8]) -> Call
-    ensures { spec.Calls (spec.Answers (category X.reads X.spells X.normal X.prints reader) text.now) text.now
-        out.old out.new result }
+    ensures { spec.Calls (spec.Answers (category X.Subtree reader) text.now) text.now out.old out.new result }
 {
     match read_text::<X>(alloc, reader, text) {
         Ok(shown) => tell(shown.as_str(), 0, 0, (0, 0), out),

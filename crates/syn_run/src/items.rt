@@ -31,9 +31,7 @@ impl ItemReader {
         scope: Span,
         tokens: TokenStream,
     ) -> Result<TokenStream, Error>
-        ensures { readers.Reprints
-            (spec.items_category A.reads E.reads A.spells E.spells A.normal E.normal A.shown E.values self) scope
-            (toks tokens) result }
+        ensures { readers.Reprints (spec.items_category A.Attributes E.Value self) scope (toks tokens) result }
     {
         match self {
             ItemReader::Struct => reprint::<StructItemOf<A, E>>(alloc, scope, tokens),
@@ -49,9 +47,9 @@ fn reprint_head<A: Attributes, E: Value>(
     tokens: TokenStream,
 ) -> Result<TokenStream, Error>
     ensures { readers.Prints
-        (Gives (parts.item A.reads E.reads A.spells E.spells A.normal E.normal A.shown E.values).grammar.reader)
-        (Fails (parts.item A.reads E.reads A.spells E.spells A.normal E.normal A.shown E.values).grammar.reader)
-        (Headline (parts.item A.reads E.reads A.spells E.spells A.normal E.normal A.shown E.values).grammar)
+        (Gives (parts.item A.Attributes E.Value).grammar.reader)
+        (Fails (parts.item A.Attributes E.Value).grammar.reader)
+        (Headline (parts.item A.Attributes E.Value).grammar)
         (spec.marker_head A.shown E.values) scope (toks tokens) result }
 {
     let item = taken(alloc, ByParse::<StructItemOf<A, E>>::new(), scope, tokens)?;

@@ -70,7 +70,7 @@ impl Reader {
         scope: Span,
         tokens: TokenStream,
     ) -> Result<TokenStream, Error>
-        ensures { readers.Reprints (spec.category X.reads X.spells X.normal X.prints self) scope (toks tokens) result }
+        ensures { readers.Reprints (spec.category X.Subtree self) scope (toks tokens) result }
     {
         match self {
             Reader::Macro => reprint::<Macro>(alloc, scope, tokens),
@@ -116,8 +116,7 @@ impl PatternReader {
         scope: Span,
         tokens: TokenStream,
     ) -> Result<TokenStream, Error>
-        ensures { readers.Reprints (spec.patterns_category X.reads X.spells X.normal X.prints self) scope (toks tokens)
-            result }
+        ensures { readers.Reprints (spec.patterns_category X.Subtree self) scope (toks tokens) result }
     {
         let parser: PatternPrint<X> = PatternPrint {
             reader: self,
@@ -133,8 +132,8 @@ impl PatternReader {
         input: &mut ParseStream<'_>,
     ) -> Result<TokenStream, Error>
         ensures shown { Parsed
-            (readers.Shows (spec.patterns_category X.reads X.spells X.normal X.prints self) input.old)
-            (Fails (spec.patterns_category X.reads X.spells X.normal X.prints self).reader input.old) result input.new }
+            (readers.Shows (spec.patterns_category X.Subtree self) input.old)
+            (Fails (spec.patterns_category X.Subtree self).reader input.old) result input.new }
         ensures within { Follows input.old input.new }
     {
         match self {
@@ -164,9 +163,9 @@ impl<X: Subtree> Parser for PatternPrint<X> {
 
     ghost can_parse = { λ _. Unit {0} };
 
-    ghost reads = { λ p. readers.Shows (spec.patterns_category X.reads X.spells X.normal X.prints p.reader) };
+    ghost reads = { λ p. readers.Shows (spec.patterns_category X.Subtree p.reader) };
 
-    ghost refuses = { λ p. Fails (spec.patterns_category X.reads X.spells X.normal X.prints p.reader).reader };
+    ghost refuses = { λ p. Fails (spec.patterns_category X.Subtree p.reader).reader };
 
     fn parse(self, alloc: Global, input: &mut ParseStream<'_>) -> Result<TokenStream, Error> {
         self.reader.print_next::<X>(alloc, input)

@@ -26,7 +26,7 @@ pub fn run<X: Subtree, R: Source, W: Sink>(
     input: &mut R,
     output: &mut W,
 ) -> u8
-    ensures { spec.Ran (category X.reads X.spells X.normal X.prints) name.now (R.remaining input.old)
+    ensures { spec.Ran (category X.Subtree) name.now (R.remaining input.old)
         (R.can_fail input.old) (input.new ≡ input.old) (Appends (W.contents output.old) (W.contents output.new))
         (W.can_fail output.old) result }
 {
@@ -57,7 +57,7 @@ fn end<W: Sink>(output: &mut W, first: &str, second: &str, status: u8) -> u8
 
 /// The text that a run shows.
 fn answer<X: Subtree, R: Source>(alloc: Global, name: &str, input: &mut R) -> Result<String, Fault>
-    ensures { spec.Answers (category X.reads X.spells X.normal X.prints) (named name.now) (R.remaining input.old)
+    ensures { spec.Answers (category X.Subtree) (named name.now) (R.remaining input.old)
         (R.can_fail input.old) (input.new ≡ input.old) (faults.answer string_bytes result) }
 {
     let Some(reader) = Reader::named(name) else {
@@ -68,8 +68,7 @@ fn answer<X: Subtree, R: Source>(alloc: Global, name: &str, input: &mut R) -> Re
 }
 
 fn shown<X: Subtree>(alloc: Global, reader: Reader, input: &[u8]) -> Result<String, Fault>
-    ensures { spec.AnswersTo (category X.reads X.spells X.normal X.prints reader) none input.now
-        (faults.answer string_bytes result) }
+    ensures { spec.AnswersTo (category X.Subtree reader) none input.now (faults.answer string_bytes result) }
 {
     match str::from_utf8(input) {
         Ok(text) => Ok(reprinted::<X>(alloc, reader, Span::none(), text)?),
@@ -81,8 +80,7 @@ fn shown<X: Subtree>(alloc: Global, reader: Reader, input: &[u8]) -> Result<Stri
 /// scope of its end, so that a refusal where something is missing there points to it. It is refused for want of memory, as `lex` refuses
 /// it, or as the reader refuses its tokens.
 pub fn read_text<X: Subtree>(alloc: Global, reader: Reader, text: &str) -> Result<String, Error>
-    ensures { spec.Replies (category X.reads X.spells X.normal X.prints reader) (text_end text.now) text.now
-        string_bytes result }
+    ensures { spec.Replies (category X.Subtree reader) (text_end text.now) text.now string_bytes result }
 {
     reprinted::<X>(alloc, reader, Span::new(text.len(), text.len()), text)
 }
@@ -94,7 +92,7 @@ fn reprinted<X: Subtree>(
     scope: Span,
     text: &str,
 ) -> Result<String, Error>
-    ensures { spec.Replies (category X.reads X.spells X.normal X.prints reader) scope text.now string_bytes result }
+    ensures { spec.Replies (category X.Subtree reader) scope text.now string_bytes result }
 {
     let tokens = lex(alloc, text)?;
     let print = reader.reprint::<X>(alloc, scope, tokens)?;

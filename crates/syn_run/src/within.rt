@@ -16,7 +16,7 @@ pub fn run_within<X: Subtree, const N: usize>(
     input: &mut &[u8],
     output: &mut Room<N>,
 ) -> u8
-    ensures { spec.RanWithin (category X.reads X.spells X.normal X.prints) N name.now input.old.now
+    ensures { spec.RanWithin (category X.Subtree) N name.now input.old.now
         output.old output.new (input.new ≡ input.old) result }
 {
     let status = run::<X, _, _>(alloc, name, input, output);

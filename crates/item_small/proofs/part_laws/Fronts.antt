@@ -4,8 +4,7 @@ use Rattle.std.proofs.Common.{◌≡◌, ◌||◌, ◌⊎◌, inl, inr, Bool, tr
 use Rattle.token_core.specs.declared.tree.Delimiter.TheVariants.{Brace}
 use Rattle.token_core.specs.Fronted.{Fronted, FrontLaws}
 use Rattle.token_core.specs.Marks.{text_of}
-use Rattle.token_core.specs.Prints.{Print}
-use Rattle.token_core.specs.Reads.{Reader, Reads, is_done, is_ident, is_text, past, sees_group, sees_mark, sees_word}
+use Rattle.token_core.specs.Reads.{Reads, is_done, is_ident, is_text, past, sees_group, sees_mark, sees_word}
 use Rattle.token_core.specs.Refusal.{Refusal}
 use Rattle.token_core.specs.Stream.{Stream}
 use Rattle.token_core.specs.Tokens as token
@@ -14,7 +13,8 @@ use Rattle.token_core.proofs.Fronteds.{fronted}
 use Rattle.token_core.proofs.Unseen.{word_no_mark}
 use Rattle.token_core.proofs.WordSpells.{word_seen}
 use Rattle.syn_path.specs.Lengths.{AttributeLaws}
-use Rattle.syn_path.specs.Values.{NormalValues, ReadValues, SpelledValues, Values}
+use Rattle.syn_path.specs.Traits.{Attributes, Expressions}
+use Rattle.syn_path.specs.Values.{SpelledValues}
 use Rattle.syn_path.specs.Whole.{AttributesMeet}
 use Rattle.syn_generics.specs.declared.generics.WhereClauseOf.{WhereClauseOf}
 use Rattle.syn_generics.specs.generics.Clauses.{a_where_clause}
@@ -35,8 +35,8 @@ no_pound k h = turned (token.sees_pound k) h
     turned true h = cc h
     turned false h = refl
 
-module _ {A : Type 0} {reads : Reader (List A)} {spells : Bool → List A → Toks → Toks → Type 0} {normal : List A → List A} {shown : List A → Print} (told : AttributeLaws reads spells) (met : AttributesMeet reads spells normal shown) where
-  attrs_laws : FrontLaws (fronts.attrs reads spells normal shown)
+module _ {A : Type 0} (attrs : Attributes A) (told : AttributeLaws attrs.reads attrs.spells) (met : AttributesMeet attrs.reads attrs.spells attrs.normal attrs.shown) where
+  attrs_laws : FrontLaws (fronts.attributes attrs)
   attrs_laws = record {
     sound = λ s t x n v e c. let h = told.took s t x v e in (h.seen, λ o. h.spelt c);
     complete = λ s x k n v i o. let h = met.met s x k i (no_pound k o) in (past s k h.last, h.reads, refl, n);
@@ -46,8 +46,8 @@ module _ {A : Type 0} {reads : Reader (List A)} {spells : Bool → List A → To
     same = λ x l r i p. (met.reprint x l r i).same;
   }
 
-  pub attrs_fronted : (s t : Stream) (r : Result (List A) Refusal) → Reads (reads s) r t → Fronted (fronts.attrs reads spells normal shown) s r t
-  attrs_fronted s t r h = fronted (fronts.attrs reads spells normal shown) attrs_laws s t r h
+  pub attrs_fronted : (s t : Stream) (r : Result (List A) Refusal) → Reads (attrs.reads s) r t → Fronted (fronts.attributes attrs) s r t
+  attrs_fronted s t r h = fronted (fronts.attributes attrs) attrs_laws s t r h
 
 -- ---- each before the next
 
@@ -94,20 +94,18 @@ module _ {A E : Type 0} (attrs : Bool → List A → Toks → Toks → Type 0) (
   clause_follows how x l k (n, absent) h = follows_on (token.sees_where l) (follows_clause l) (body_follows l h)
   clause_follows how x l k (n, present (a_where_clause {q = q} {m = m} w g i)) h = follows_word (token.sees_where l) (follows_clause l) (word_seen q l m w)
 
-module _ {A E : Type 0} {read_attrs : Reader (List A)} (reads : ReadValues E) {spelt_attrs : Bool → List A → Toks → Toks → Type 0} (spells : SpelledValues E)
-    {normal_attrs : List A → List A} (normals : NormalValues E) {shown_attrs : List A → Print} (prints : Values E) (met : AttributesMeet read_attrs spelt_attrs normal_attrs shown_attrs) where
-  pub field_fits : FieldFits (fronts.attributes read_attrs reads spelt_attrs spells normal_attrs normals shown_attrs prints) (fronts.ty read_attrs reads spelt_attrs spells normal_attrs normals shown_attrs prints)
+module _ {A E : Type 0} (attrs : Attributes A) (exprs : Expressions E) (met : AttributesMeet attrs.reads attrs.spells attrs.normal attrs.shown) where
+  pub field_fits : FieldFits (fronts.attributes attrs) (fronts.ty attrs exprs)
   field_fits = record {
     starts = λ x l k i h. starts_at l k (met.begins x l k i) h;
     name = λ k h. before_word is_ident k h;
     ends = λ k h. h;
   }
 
-  pub fits : Fits (fronts.attributes read_attrs reads spelt_attrs spells normal_attrs normals shown_attrs prints) (fronts.generics read_attrs reads spelt_attrs spells normal_attrs normals shown_attrs prints)
-      (fronts.clause read_attrs reads spelt_attrs spells normal_attrs normals shown_attrs prints) (fronts.ty read_attrs reads spelt_attrs spells normal_attrs normals shown_attrs prints)
+  pub fits : Fits (fronts.attributes attrs) (fronts.generics attrs exprs) (fronts.clause attrs exprs) (fronts.ty attrs exprs)
   fits = record {
     field = field_fits;
     word = λ k h. before_word (is_text (text_of 43)) k h;
-    clause = λ clear x l k i h. clause_follows spelt_attrs spells _ x l k i h;
+    clause = λ clear x l k i h. clause_follows attrs.spells exprs.spells _ x l k i h;
     body = body_follows;
   }

@@ -24,12 +24,12 @@ impl<X: Subtree> Parse for Meta<X> {
 
     ghost refuses = { Fails (reading.meta X.reads) };
 
-    ghost promise = { Headline (grammars.meta X.reads X.spells X.normal X.prints) };
+    ghost promise = { Headline (grammars.meta X.Subtree) };
 
     fn parse(alloc: Global, input: &mut ParseStream<'_>) -> Result<Meta<X>, Error>
         ensures reads { Reads (reading.meta X.reads input.old) result input.new }
         ensures within { Follows input.old input.new }
-        ensures promise { Heads (grammars.meta X.reads X.spells X.normal X.prints) input.old result input.new }
+        ensures promise { Heads (grammars.meta X.Subtree) input.old result input.new }
     {
         parse_meta(alloc, input)
     }
@@ -154,12 +154,12 @@ impl<X: Subtree> Parse for MetaNameValue<X> {
 
     ghost refuses = { Fails (reading.name_value X.reads) };
 
-    ghost promise = { Headline (grammars.name_value X.reads X.spells X.normal X.prints) };
+    ghost promise = { Headline (grammars.name_value X.Subtree) };
 
     fn parse(alloc: Global, input: &mut ParseStream<'_>) -> Result<MetaNameValue<X>, Error>
         ensures reads { Reads (reading.name_value X.reads input.old) result input.new }
         ensures within { Follows input.old input.new }
-        ensures promise { Heads (grammars.name_value X.reads X.spells X.normal X.prints) input.old result input.new }
+        ensures promise { Heads (grammars.name_value X.Subtree) input.old result input.new }
     {
         parse_meta_name_value(alloc, input)
     }
@@ -276,8 +276,8 @@ impl<X: Subtree> Attribute<X> {
         ensures parses { Parses (reading.outer X.reads) result input.old input.new }
         ensures front { Visible input.old.rest → input.new.left ≡ None →
             IfOk result (λ all. AreAll (IsOuter X.spells false) all input.old.rest input.new.rest) }
-        ensures headline { Heads (grammars.outer X.reads X.spells X.normal X.prints) input.old result input.new }
-        ensures fronts { Fronted (grammars.outer_front X.reads X.spells X.normal X.prints) input.old result input.new }
+        ensures headline { Heads (grammars.outer X.Subtree) input.old result input.new }
+        ensures fronts { Fronted (grammars.outer_front X.Subtree) input.old result input.new }
     {
         parse_outers(alloc, input)
     }
@@ -290,7 +290,7 @@ impl<X: Subtree> Attribute<X> {
         ensures parses { Parses (reading.inner X.reads) result input.old input.new }
         ensures front { Visible input.old.rest → input.new.left ≡ None →
             IfOk result (λ all. AreAll (IsInner X.spells false) all input.old.rest input.new.rest) }
-        ensures headline { Heads (grammars.inner X.reads X.spells X.normal X.prints) input.old result input.new }
+        ensures headline { Heads (grammars.inner X.Subtree) input.old result input.new }
     {
         parse_inners(alloc, input)
     }

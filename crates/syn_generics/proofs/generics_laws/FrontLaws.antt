@@ -1,7 +1,7 @@
 -- The grammars of generics and of an optional where clause meet their laws on the front of a list, where those of attributes and expressions are given: before what may follow, each read is sound and complete, and what is spelt plainly is reprinted.
-use Rattle.std.proofs.Common.{◌≡◌, ℕ, Bool, true, false, ◌||◌, List, [], ◌∷◌, Option, Some, None, refl}
-use Rattle.syn_generics.proofs.generics_laws.words.Tokens.{Brace, Ident, text_of, Print, Reader, any_text, as_word, is_done, is_text, sees_group, sees_word, word_meets, Bytes, Toks, done, word, mark, group}
-use Rattle.syn_generics.proofs.generics_laws.words.Paths.{NormalValues, ReadValues, SpelledValues, Values}
+use Rattle.std.proofs.Common.{◌≡◌, Bool, true, false, ◌||◌, [], Option, Some, None, refl}
+use Rattle.syn_generics.proofs.generics_laws.words.Tokens.{Brace, Ident, text_of, any_text, as_word, is_done, is_text, sees_group, sees_word, word_meets, Bytes, Toks, word}
+use Rattle.syn_path.specs.Traits.{Attributes, Expressions}
 use Rattle.syn_generics.proofs.generics_laws.words.Forms.{ends_predicate}
 use Rattle.token_core.specs.Front.{front}
 use Rattle.token_core.specs.Fronted.{FrontLaws}
@@ -53,13 +53,13 @@ clause_no_where k h = no_word (is_text (text_of 18)) k (predicate_over k (clause
 generics_no_lt : (k : Toks) → follows_generics k ≡ true → token.sees_lt k ≡ false
 generics_no_lt k h = of_either (token.sees_where k) (follows_clause k) (word_no_mark (is_text (text_of 18)) 60 [] k) (λ i. predicate_no_lt k (clause_ends k i)) h
 
-module _ {A E : Type 0} {attrs : Reader (List A)} {values : ReadValues E} {shown : Bool → List A → Toks → Toks → Type 0} {spelt : SpelledValues E} {na : List A → List A} {ne : NormalValues E} {pa : List A → Print} {pe : Values E}
-    (g : Given attrs values shown spelt) (m : GivenMeets attrs values shown spelt) (a : GivenAgain na ne pa pe shown spelt) where
-  pub generics_fronts : FrontLaws (promises.generics_front attrs values shown spelt na ne pa pe)
+module _ {A E : Type 0} (attrs : Attributes A) (exprs : Expressions E) (g : Given attrs.reads exprs.reads attrs.spells exprs.spells) (m : GivenMeets attrs.reads exprs.reads attrs.spells exprs.spells)
+    (a : GivenAgain attrs.normal exprs.normal attrs.shown exprs.values attrs.spells exprs.spells) where
+  pub generics_fronts : FrontLaws (promises.generics_front attrs exprs)
   generics_fronts =
-      lawful_on_fronts (by.BeginsGenerics shown spelt) follows_generics (generics_took g) (λ s x k i o. generics_met m i.0 x s.rest k s.left s.last s.scope i.1 (λ q. generics_no_lt k o)) (again.generics_fronts a)
+      lawful_on_fronts (by.BeginsGenerics attrs.spells exprs.spells) follows_generics (generics_took g) (λ s x k i o. generics_met m i.0 x s.rest k s.left s.last s.scope i.1 (λ q. generics_no_lt k o)) (again.generics_fronts a)
 
-  pub optional_where_clause_fronts : FrontLaws (promises.optional_where_clause_front attrs values shown spelt na ne pa pe)
+  pub optional_where_clause_fronts : FrontLaws (promises.optional_where_clause_front attrs exprs)
   optional_where_clause_fronts =
-      lawful_on_fronts (by.BeginsOptionalClause shown spelt) follows_clause (optional_where_clause_took g)
+      lawful_on_fronts (by.BeginsOptionalClause attrs.spells exprs.spells) follows_clause (optional_where_clause_took g)
       (λ s x k i o. optional_where_clause_met m i.0 x s.rest k s.left s.last s.scope i.1 (λ q. clause_no_where k o) (clause_ends k o) (clause_no_comma k o)) (again.optional_where_clause_fronts a)

@@ -290,21 +290,16 @@ impl<A: Attributes, E: Value> Parse for GenericsOf<A, E> {
 
     ghost refuses = { Fails (alone.generics A.reads E.reads) };
 
-    ghost promise = { Headline
-        (promises.generics A.reads E.reads A.spells E.spells A.normal E.normal A.shown E.values) };
+    ghost promise = { Headline (promises.generics A.Attributes E.Value) };
 
-    ghost fronts = { said
-        (promises.generics_front A.reads E.reads A.spells E.spells A.normal E.normal A.shown E.values) };
+    ghost fronts = { said (promises.generics_front A.Attributes E.Value) };
 
     fn parse(alloc: Global, input: &mut ParseStream<'_>) -> Result<GenericsOf<A, E>, Error>
         ensures reads { Reads (alone.generics A.reads E.reads input.old) result input.new }
         ensures within { Follows input.old input.new }
-        ensures promise { Heads (promises.generics A.reads E.reads A.spells E.spells A.normal E.normal A.shown E.values)
-            input.old result input.new }
+        ensures promise { Heads (promises.generics A.Attributes E.Value) input.old result input.new }
         ensures front { Takes (fronts.generics A.spells E.spells) input.old result input.new }
-        ensures fronts { Fronted
-            (promises.generics_front A.reads E.reads A.spells E.spells A.normal E.normal A.shown E.values)
-            input.old result input.new }
+        ensures fronts { Fronted (promises.generics_front A.Attributes E.Value) input.old result input.new }
     {
         parse_generics(alloc, input)
     }
@@ -325,21 +320,15 @@ impl<A: Attributes, E: Value> Parse for WhereClauseOf<A, E> {
 
     ghost refuses = { Fails (alone.where_clause A.reads E.reads) };
 
-    ghost promise = { Headline
-        (promises.where_clause A.reads E.reads A.spells E.spells A.normal E.normal A.shown E.values) };
+    ghost promise = { Headline (promises.where_clause A.Attributes E.Value) };
 
     fn parse(alloc: Global, input: &mut ParseStream<'_>) -> Result<WhereClauseOf<A, E>, Error>
         ensures reads { Reads (alone.where_clause A.reads E.reads input.old) result input.new }
         ensures within { Follows input.old input.new }
-        ensures promise { Heads
-            (promises.where_clause A.reads E.reads A.spells E.spells A.normal E.normal A.shown E.values)
-            input.old result input.new }
+        ensures promise { Heads (promises.where_clause A.Attributes E.Value) input.old result input.new }
         ensures front { Takes (fronts.where_clause A.spells E.spells) input.old result input.new }
-        ensures printed { IfOk result (λ x.
-            (promises.optional_where_clause A.reads E.reads A.spells E.spells A.normal E.normal A.shown E.values).plain
-            (Some x) → Reprinted
-            (promises.optional_where_clause A.reads E.reads A.spells E.spells A.normal E.normal A.shown E.values)
-            (Some x)) }
+        ensures printed { IfOk result (λ x. (promises.optional_where_clause A.Attributes E.Value).plain (Some x) →
+            Reprinted (promises.optional_where_clause A.Attributes E.Value) (Some x)) }
     {
         parse_where_clause(alloc, input)
     }
@@ -353,12 +342,9 @@ impl<A: Attributes, E: Value> WhereClauseOf<A, E> {
         input: &mut ParseStream<'_>,
     ) -> Result<Option<WhereClauseOf<A, E>>, Error>
         ensures parses { Parses (alone.optional_where_clause A.reads E.reads) result input.old input.new }
-        ensures promise { Heads
-            (promises.optional_where_clause A.reads E.reads A.spells E.spells A.normal E.normal A.shown E.values)
-            input.old result input.new }
+        ensures promise { Heads (promises.optional_where_clause A.Attributes E.Value) input.old result input.new }
         ensures front { Takes (fronts.optional_where_clause A.spells E.spells) input.old result input.new }
-        ensures fronts { Fronted
-            (promises.optional_where_clause_front A.reads E.reads A.spells E.spells A.normal E.normal A.shown E.values)
+        ensures fronts { Fronted (promises.optional_where_clause_front A.Attributes E.Value)
             input.old result input.new }
     {
         parse_optional_where_clause(alloc, input)
@@ -393,15 +379,12 @@ impl<A: Attributes, E: Value> Parse for WherePredicateOf<A, E> {
 
     ghost refuses = { Fails (alone.predicate A.reads E.reads) };
 
-    ghost promise = { Headline
-        (promises.predicate A.reads E.reads A.spells E.spells A.normal E.normal A.shown E.values) };
+    ghost promise = { Headline (promises.predicate A.Attributes E.Value) };
 
     fn parse(alloc: Global, input: &mut ParseStream<'_>) -> Result<WherePredicateOf<A, E>, Error>
         ensures reads { Reads (alone.predicate A.reads E.reads input.old) result input.new }
         ensures within { Follows input.old input.new }
-        ensures promise { Heads
-            (promises.predicate A.reads E.reads A.spells E.spells A.normal E.normal A.shown E.values)
-            input.old result input.new }
+        ensures promise { Heads (promises.predicate A.Attributes E.Value) input.old result input.new }
         ensures front { Takes (fronts.predicate A.spells E.spells) input.old result input.new }
     {
         parse_predicate(alloc, input)

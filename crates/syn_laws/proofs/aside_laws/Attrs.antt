@@ -7,9 +7,8 @@ use Rattle.token_core.specs.declared.tree.Delimiter.TheVariants.{Bracket}
 use Rattle.token_core.specs.declared.token.Brace.{Brace}
 use Rattle.token_core.specs.Groups as groups
 use Rattle.token_core.specs.Headline.{Grammar, Lawful}
-use Rattle.token_core.specs.Prints.{Print}
-use Rattle.token_core.specs.Reads.{Reader}
 use Rattle.token_core.specs.Spellings.{IsLit, IsMark}
+use Rattle.syn_path.specs.Traits.{Subtree}
 use Rattle.syn_path.specs.mac.Macros.{Bang}
 use Rattle.token_core.specs.Spans.{none, delim_span}
 use Rattle.token_core.specs.Toks.{Toks, done, group}
@@ -204,19 +203,19 @@ list_aside = aside grammars.list free.list list_lawful (moves grammars.list free
 pub kept_moves : {A : Type 0} (G : Grammar A) (fr : A → A) → ((x : A) (l m : Toks) → G.spells true x l → Same l m → Kept fr (G.spells true) x m) → Moves G fr
 kept_moves G fr f b m l v i s = let q = f b m l i (same_of m l v s) in (q.tree, q.is, q.same)
 
-module _ {X : Type 0} (reads : Place → Reader X) (spells : Place → X → Toks → Type 0) (normals : Place → X → X) (prints : Place → X → Print) (fx : X → X) (given : MovesSubtree spells fx) where
-  pub name_value_aside : Lawful (grammars.name_value reads spells normals prints) → Asides (grammars.name_value reads spells normals prints) (free.name_value fx)
-  name_value_aside laws = let G = grammars.name_value reads spells normals prints in aside G (free.name_value fx) laws (kept_moves G (free.name_value fx) (λ x l m i s. name_value_moves spells fx given i s))
+module _ {X : Type 0} (sub : Subtree X) (given : MovesSubtree sub.spells sub.bare) where
+  pub name_value_aside : Lawful (grammars.name_value sub) → Asides (grammars.name_value sub) (free.name_value sub.bare)
+  name_value_aside laws = let G = grammars.name_value sub in aside G (free.name_value sub.bare) laws (kept_moves G (free.name_value sub.bare) (λ x l m i s. name_value_moves sub.spells sub.bare given i s))
 
-  pub meta_aside : Lawful (grammars.meta reads spells normals prints) → Asides (grammars.meta reads spells normals prints) (free.meta fx)
-  meta_aside laws = let G = grammars.meta reads spells normals prints in aside G (free.meta fx) laws (kept_moves G (free.meta fx) (λ x l m i s. meta_moves spells fx given i s))
+  pub meta_aside : Lawful (grammars.meta sub) → Asides (grammars.meta sub) (free.meta sub.bare)
+  meta_aside laws = let G = grammars.meta sub in aside G (free.meta sub.bare) laws (kept_moves G (free.meta sub.bare) (λ x l m i s. meta_moves sub.spells sub.bare given i s))
 
-  pub outer_aside : Lawful (grammars.outer reads spells normals prints) → Asides (grammars.outer reads spells normals prints) (free.attributes fx)
+  pub outer_aside : Lawful (grammars.outer sub) → Asides (grammars.outer sub) (free.attributes sub.bare)
   outer_aside laws =
-      let G = grammars.outer reads spells normals prints in
-      aside G (free.attributes fx) laws (moves G (free.attributes fx) (AreAll (IsOuter spells true)) (λ x l i. i) (λ x l i. i) (λ x l r m i s. all_move (free.attribute fx) i s (λ x l r m. outer_moves spells fx given)))
+      let G = grammars.outer sub in
+      aside G (free.attributes sub.bare) laws (moves G (free.attributes sub.bare) (AreAll (IsOuter sub.spells true)) (λ x l i. i) (λ x l i. i) (λ x l r m i s. all_move (free.attribute sub.bare) i s (λ x l r m. outer_moves sub.spells sub.bare given)))
 
-  pub inner_aside : Lawful (grammars.inner reads spells normals prints) → Asides (grammars.inner reads spells normals prints) (free.attributes fx)
+  pub inner_aside : Lawful (grammars.inner sub) → Asides (grammars.inner sub) (free.attributes sub.bare)
   inner_aside laws =
-      let G = grammars.inner reads spells normals prints in
-      aside G (free.attributes fx) laws (moves G (free.attributes fx) (AreAll (IsInner spells true)) (λ x l i. i) (λ x l i. i) (λ x l r m i s. all_move (free.attribute fx) i s (λ x l r m. inner_moves spells fx given)))
+      let G = grammars.inner sub in
+      aside G (free.attributes sub.bare) laws (moves G (free.attributes sub.bare) (AreAll (IsInner sub.spells true)) (λ x l i. i) (λ x l i. i) (λ x l r m i s. all_move (free.attribute sub.bare) i s (λ x l r m. inner_moves sub.spells sub.bare given)))

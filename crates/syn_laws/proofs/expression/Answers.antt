@@ -3,7 +3,7 @@ use Rattle.syn_laws.proofs.normal_laws.Admitted.{value_admitted}
 use Rattle.syn_laws.proofs.expression.Goals as goal
 
 pub returns-clause-admitted : goal.returns-clause-admitted
-returns-clause-admitted g c = value_admitted g.X.Subtree.reads g.X.Subtree.spells g.X.Subtree.normal g.X.Subtree.prints g.met.X.Subtree.complete g.met.X.Subtree.reprint c.args.tree.now
+returns-clause-admitted g c = value_admitted g.X.Subtree g.met.X.Subtree.complete g.met.X.Subtree.reprint c.args.tree.now
 
 pub returns-clause-stays : goal.returns-clause-stays
 returns-clause-stays g c = λ own. value_stays g.X.Subtree.normal own c.args.tree.now

@@ -6,6 +6,6 @@ use Rattle.syn_laws.proofs.impl_generics.Goals as goal
 pub returns : goal.returns
 returns g c = record {
   again =
-      stripped_reprinted (given g.met.A.Attributes.told g.met.E.Value.consts g.met.E.Value.lengths) (given_meets g.met.A.Attributes.met g.met.E.Value.met g.met.E.Value.lengths)
+      stripped_reprinted g.A.Attributes g.E.Value (given g.met.A.Attributes.told g.met.E.Value.consts g.met.E.Value.lengths) (given_meets g.met.A.Attributes.met g.met.E.Value.met g.met.E.Value.lengths)
       (given_again g.met.A.Attributes.met g.met.E.Value.met g.met.E.Value.lengths g.met.A.Attributes.bare) c.args.tree.now;
 }

@@ -1,20 +1,18 @@
 -- An admitted tree whose verbatim parts are clear prints its normal form, which is its own and prints the same: of every grammar that meets its laws, and of the value of a meta.
-use Rattle.std.proofs.Common.{◌≡◌, Bool, false, List, None, Ok, sym, ◌∙◌, ap}
-use Rattle.token_core.specs.Headline.{Grammar, Lawful, Reprinted, printed}
-use Rattle.token_core.specs.Prints.{Print}
-use Rattle.token_core.specs.Rebuilt.{Visible}
-use Rattle.token_core.specs.Reads.{Reader, leaves}
+use Rattle.std.proofs.Common.{◌≡◌, false, List, None, Ok, sym, ◌∙◌, ap}
+use Rattle.token_core.specs.Headline.{Grammar, Lawful, printed}
+use Rattle.token_core.specs.Reads.{leaves}
 use Rattle.token_core.specs.Stream.{Stream}
 use Rattle.token_core.specs.Toks.{Toks}
 use Rattle.token_core.proofs.Headlines.{again}
 use Rattle.syn_path.specs.Supplied.{IsApart, Reprints, SameOutcome, UsesUp}
-use Rattle.syn_path.specs.Values.{NormalValues, ReadValues, SpelledValues, Values}
+use Rattle.syn_path.specs.Traits.{Attributes, Expressions, Subtree}
 use Rattle.syn_path.specs.declared.supplied.Place.{Place}
 use Rattle.syn_path.specs.declared.supplied.Place.TheVariants.{Value}
 use Rattle.syn_attr.specs.declared.attr.Meta.{Meta}
 use Rattle.syn_attr.specs.declared.expr.Expr.{Expr}
 use Rattle.syn_attr.specs.declared.expr.Expr.TheVariants as e
-use Rattle.syn_attr.specs.attr.Attrs.{Attribute, literal}
+use Rattle.syn_attr.specs.attr.Attrs.{Attribute}
 use Rattle.syn_attr.specs.attr.Grammars as grammars
 use Rattle.syn_attr.specs.attr.Normal as normal
 use Rattle.syn_attr.specs.attr.Printing as printing
@@ -48,41 +46,41 @@ admitted G laws x l v i p =
 
 -- ---- of a value
 
-module _ {X : Type 0} (reads : Place → Reader X) (spells : Place → X → Toks → Type 0) (nx : Place → X → X) (px : Place → X → Print)
-    (complete : (p : Place) (s : Stream) (x : X) → spells p x s.rest → (t : Stream) × (reads p s ≡ Ok (x, t)) × UsesUp s t)
-    (reprint : (p : Place) (x : X) (l : Toks) → spells p x l → Reprints (spells p) (nx p) (px p) x l) where
-  pub value_admitted : (x : Expr X) (l : Toks) → IsValue spells false x l → (normal.value nx (normal.value nx x) ≡ normal.value nx x) × (printing.value px (normal.value nx x) ≡ printing.value px x)
-  value_admitted x l (a_literal {x = y} i) = let n = normal_literal nx y in (ap (normal.value nx) n, ap (printing.value px) n)
+module _ {X : Type 0} (sub : Subtree X)
+    (complete : (p : Place) (s : Stream) (x : X) → sub.spells p x s.rest → (t : Stream) × (sub.reads p s ≡ Ok (x, t)) × UsesUp s t)
+    (reprint : (p : Place) (x : X) (l : Toks) → sub.spells p x l → Reprints (sub.spells p) (sub.normal p) (sub.prints p) x l) where
+  pub value_admitted : (x : Expr X) (l : Toks) → IsValue sub.spells false x l → (normal.value sub.normal (normal.value sub.normal x) ≡ normal.value sub.normal x) × (printing.value sub.prints (normal.value sub.normal x) ≡ printing.value sub.prints x)
+  value_admitted x l (a_literal {x = y} i) = let n = normal_literal sub.normal y in (ap (normal.value sub.normal) n, ap (printing.value sub.prints) n)
   value_admitted x l (supplied {x = y} i) =
-      let n = normal_other nx y in (
-        ap (normal.value nx) n ∙ normal_other nx (nx Value y) ∙ ap (λ (z : X). e.Other z) (supplied_stays reads spells nx px complete reprint Value y l i) ∙ sym n,
-        ap (printing.value px) n ∙ prints_other px (nx Value y) ∙ (reprint Value y l i).same ∙ sym (prints_other px y),
+      let n = normal_other sub.normal y in (
+        ap (normal.value sub.normal) n ∙ normal_other sub.normal (sub.normal Value y) ∙ ap (λ (z : X). e.Other z) (supplied_stays sub.reads sub.spells sub.normal sub.prints complete reprint Value y l i) ∙ sym n,
+        ap (printing.value sub.prints) n ∙ prints_other sub.prints (sub.normal Value y) ∙ (reprint Value y l i).same ∙ sym (prints_other sub.prints y),
       )
 
 -- ---- for each tree, over the laws of what is supplied
 
-module _ {X : Type 0} (reads : Place → Reader X) (spells : Place → X → Toks → Type 0) (normals : Place → X → X) (prints : Place → X → Print)
-    (steady : (p : Place) (s t : Stream) → s.rest ≡ t.rest → SameOutcome (reads p s) (reads p t))
-    (sound : (p : Place) (s t : Stream) (x : X) → reads p s ≡ Ok (x, t) → leaves t ≡ None → spells p x s.rest)
-    (complete : (p : Place) (s : Stream) (x : X) → spells p x s.rest → (t : Stream) × (reads p s ≡ Ok (x, t)) × UsesUp s t)
-    (reprint : (p : Place) (x : X) (l : Toks) → spells p x l → Reprints (spells p) (normals p) (prints p) x l)
-    (apart : (x : X) (l : Toks) → spells Value x l → IsApart l) where
-  pub meta_admitted : (x : Meta X) → Admitted (grammars.meta reads spells normals prints) x
-  meta_admitted = admitted (grammars.meta reads spells normals prints) (meta_lawful reads spells normals prints sound complete reprint apart)
+module _ {X : Type 0} (sub : Subtree X)
+    (steady : (p : Place) (s t : Stream) → s.rest ≡ t.rest → SameOutcome (sub.reads p s) (sub.reads p t))
+    (sound : (p : Place) (s t : Stream) (x : X) → sub.reads p s ≡ Ok (x, t) → leaves t ≡ None → sub.spells p x s.rest)
+    (complete : (p : Place) (s : Stream) (x : X) → sub.spells p x s.rest → (t : Stream) × (sub.reads p s ≡ Ok (x, t)) × UsesUp s t)
+    (reprint : (p : Place) (x : X) (l : Toks) → sub.spells p x l → Reprints (sub.spells p) (sub.normal p) (sub.prints p) x l)
+    (apart : (x : X) (l : Toks) → sub.spells Value x l → IsApart l) where
+  pub meta_admitted : (x : Meta X) → Admitted (grammars.meta sub) x
+  meta_admitted = admitted (grammars.meta sub) (meta_lawful sub sound complete reprint apart)
 
-  pub outer_admitted : (x : List (Attribute X)) → Admitted (grammars.outer reads spells normals prints) x
-  outer_admitted = admitted (grammars.outer reads spells normals prints) (outer_lawful reads spells normals prints sound complete reprint apart)
+  pub outer_admitted : (x : List (Attribute X)) → Admitted (grammars.outer sub) x
+  outer_admitted = admitted (grammars.outer sub) (outer_lawful sub sound complete reprint apart)
 
-  pub inner_admitted : (x : List (Attribute X)) → Admitted (grammars.inner reads spells normals prints) x
-  inner_admitted = admitted (grammars.inner reads spells normals prints) (inner_lawful reads spells normals prints sound complete reprint apart)
+  pub inner_admitted : (x : List (Attribute X)) → Admitted (grammars.inner sub) x
+  inner_admitted = admitted (grammars.inner sub) (inner_lawful sub sound complete reprint apart)
 
-  pub pat_admitted : (x : Pat X) (place : PatPlace) → Admitted (patterns.pat reads spells normals prints place) x
-  pat_admitted x place = admitted (patterns.pat reads spells normals prints place) (pat_lawful reads spells normals prints steady sound complete reprint apart place) x
+  pub pat_admitted : (x : Pat X) (place : PatPlace) → Admitted (patterns.pat sub place) x
+  pat_admitted x place = admitted (patterns.pat sub place) (pat_lawful sub steady sound complete reprint apart place) x
 
-module _ {A E : Type 0} {attrs : Reader (List A)} {values : ReadValues E} {shown : Bool → List A → Toks → Toks → Type 0} {spelt : SpelledValues E} {na : List A → List A} {ne : NormalValues E} {pa : List A → Print} {pe : Values E}
-    (g : Given attrs values shown spelt) (m : GivenMeets attrs values shown spelt) (a : GivenAgain na ne pa pe shown spelt) where
-  pub ty_admitted : (x : TypeTree A E) (place : TypePlace) → Admitted (types.ty attrs values shown spelt na ne pa pe place) x
-  ty_admitted x place = admitted (types.ty attrs values shown spelt na ne pa pe place) (ty_lawful g m a place) x
+module _ {A E : Type 0} (attrs : Attributes A) (exprs : Expressions E) (g : Given attrs.reads exprs.reads attrs.spells exprs.spells) (m : GivenMeets attrs.reads exprs.reads attrs.spells exprs.spells)
+    (a : GivenAgain attrs.normal exprs.normal attrs.shown exprs.values attrs.spells exprs.spells) where
+  pub ty_admitted : (x : TypeTree A E) (place : TypePlace) → Admitted (types.ty attrs exprs place) x
+  ty_admitted x place = admitted (types.ty attrs exprs place) (ty_lawful attrs exprs g m a place) x
 
-  pub generics_admitted : (x : GenericsOf A E) → Admitted (generics.generics attrs values shown spelt na ne pa pe) x
-  generics_admitted = admitted (generics.generics attrs values shown spelt na ne pa pe) (generics_lawful g m a)
+  pub generics_admitted : (x : GenericsOf A E) → Admitted (generics.generics attrs exprs) x
+  generics_admitted = admitted (generics.generics attrs exprs) (generics_lawful attrs exprs g m a)

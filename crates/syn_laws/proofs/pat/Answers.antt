@@ -3,7 +3,7 @@ use Rattle.syn_laws.proofs.pat_laws.Stays.{pat_same, pat_stays}
 use Rattle.syn_laws.proofs.pat.Goals as goal
 
 pub returns-clause-admitted : goal.returns-clause-admitted
-returns-clause-admitted g c = pat_admitted g.X.Subtree.reads g.X.Subtree.spells g.X.Subtree.normal g.X.Subtree.prints g.met.X.Subtree.steady g.met.X.Subtree.sound g.met.X.Subtree.complete g.met.X.Subtree.reprint g.met.X.Subtree.apart c.args.tree.now
+returns-clause-admitted g c = pat_admitted g.X.Subtree g.met.X.Subtree.steady g.met.X.Subtree.sound g.met.X.Subtree.complete g.met.X.Subtree.reprint g.met.X.Subtree.apart c.args.tree.now
 
 pub returns-clause-stays : goal.returns-clause-stays
 returns-clause-stays g c = λ own. pat_stays g.X.Subtree.normal own c.args.tree.now

@@ -1,19 +1,13 @@
 -- For each reader, what its whole read promises aside from spans.
-use Rattle.std.specs.Prelude.{Bool, List, option_map}
+use Rattle.std.specs.Prelude.{List, option_map}
 use Rattle.token_core.specs.Prints.{Print}
-use Rattle.token_core.specs.Reads.{Reader}
-use Rattle.token_core.specs.Toks.{Toks}
-use Rattle.syn_path.specs.declared.supplied.Place.{Place}
 use Rattle.syn_path.specs.mac.Grammars as macros
 use Rattle.syn_path.specs.path.Grammars as paths
-use Rattle.syn_path.specs.Values.{ReadValues, SpelledValues}
+use Rattle.syn_path.specs.Traits as traits
 use Rattle.syn_attr.specs.attr.Attrs.{Attribute as Attr}
-use Rattle.syn_attr.specs.attr.Consts.{normal_values_of, outer, values_of}
+use Rattle.syn_attr.specs.attr.Consts.{outer}
 use Rattle.syn_attr.specs.attr.Grammars as attributes
-use Rattle.syn_attr.specs.attr.Lengths.{lens, spells_len}
-use Rattle.syn_attr.specs.attr.Normal as normal
-use Rattle.syn_attr.specs.attr.Reading as reading
-use Rattle.syn_attr.specs.attr.Spelling.{AreAll, IsOuter, IsConst, IsConstDefault}
+use Rattle.syn_attr.specs.attr.Traits as given
 use Rattle.syn_attr.specs.declared.expr.Expr.{Expr}
 use Rattle.syn_forms.specs.declared.places.TypePlace.{TypePlace}
 use Rattle.syn_forms.specs.tokens.Grammars as tokens
@@ -44,77 +38,78 @@ pub record WithoutValues : Type 0 where
 pub record ModPaths {G : Type 0} (none : G) (shown : G → Print) : Type 0 where
   pub mod_style : (arguments : G → G) → Asides (paths.mod_style none shown) (free_paths.path arguments)
 
--- ---- over what a supplied subtree reads, spells, has as its normal form and prints in each place, and what it is without spans
+-- ---- over a supplied subtree
 
-module _ {X : Type 0} (reads : Place → Reader X) (spells : Place → X → Toks → Type 0) (normals : Place → X → X) (prints : Place → X → Print) (subtree : X → X) where
+module _ {X : Type 0} (sub : traits.Subtree X) where
   pub record Attributes : Type 0 where
-    pub meta : Asides (attributes.meta reads spells normals prints) (free_attrs.meta subtree)
-    pub name_value : Asides (attributes.name_value reads spells normals prints) (free_attrs.name_value subtree)
-    pub outer : Asides (attributes.outer reads spells normals prints) (free_attrs.attributes subtree)
-    pub inner : Asides (attributes.inner reads spells normals prints) (free_attrs.attributes subtree)
+    pub meta : Asides (attributes.meta sub) (free_attrs.meta sub.bare)
+    pub name_value : Asides (attributes.name_value sub) (free_attrs.name_value sub.bare)
+    pub outer : Asides (attributes.outer sub) (free_attrs.attributes sub.bare)
+    pub inner : Asides (attributes.inner sub) (free_attrs.attributes sub.bare)
 
   -- attributes and expressions in types
-  abbrev read_attrs : Reader (List (Attr X))
-  read_attrs = reading.outer reads
+  abbrev attrs : traits.Attributes (Attr X)
+  attrs = given.attributes sub
 
-  abbrev read_values : ReadValues (Expr X)
-  read_values = record { len = lens reads; const_argument = reading.const_argument reads }
+  abbrev exprs : traits.Expressions (Expr X)
+  exprs = given.expressions sub
 
-  abbrev spelt_attrs : Bool → List (Attr X) → Toks → Toks → Type 0
-  spelt_attrs clear = AreAll (IsOuter spells clear)
+  -- without their spans
+  abbrev attrs_bare : List (Attr X) → List (Attr X)
+  attrs_bare = free_attrs.attributes sub.bare
 
-  abbrev spelt_values : SpelledValues (Expr X)
-  spelt_values = record { len = spells_len spells; const_argument = λ clear. IsConst spells; const_default = λ clear. IsConstDefault spells }
+  abbrev exprs_bare : Expr X → Expr X
+  exprs_bare = free_attrs.value sub.bare
 
   -- paths and their arguments
   pub record Paths : Type 0 where
-    pub path : Asides (promises.path read_attrs read_values spelt_attrs spelt_values (normal.attributes normals) (normal_values_of normals) (outer prints) (values_of prints)) (free.path (free_attrs.attributes subtree) (free_attrs.value subtree))
-    pub segment : Asides (promises.segment read_attrs read_values spelt_attrs spelt_values (normal.attributes normals) (normal_values_of normals) (outer prints) (values_of prints)) (free.segment (free_attrs.attributes subtree) (free_attrs.value subtree))
-    pub argument : Asides (promises.argument read_attrs read_values spelt_attrs spelt_values (normal.attributes normals) (normal_values_of normals) (outer prints) (values_of prints)) (free.argument (free_attrs.attributes subtree) (free_attrs.value subtree))
-    pub angle : Asides (promises.angle read_attrs read_values spelt_attrs spelt_values (normal.attributes normals) (normal_values_of normals) (outer prints) (values_of prints)) (free.angle (free_attrs.attributes subtree) (free_attrs.value subtree))
-    pub turbofish : Asides (promises.turbofish read_attrs read_values spelt_attrs spelt_values (normal.attributes normals) (normal_values_of normals) (outer prints) (values_of prints)) (free.angle (free_attrs.attributes subtree) (free_attrs.value subtree))
-    pub parenthesized : Asides (promises.parenthesized read_attrs read_values spelt_attrs spelt_values (normal.attributes normals) (normal_values_of normals) (outer prints) (values_of prints)) (free.parenthesized (free_attrs.attributes subtree) (free_attrs.value subtree))
+    pub path : Asides (promises.path attrs exprs) (free.path attrs_bare exprs_bare)
+    pub segment : Asides (promises.segment attrs exprs) (free.segment attrs_bare exprs_bare)
+    pub argument : Asides (promises.argument attrs exprs) (free.argument attrs_bare exprs_bare)
+    pub angle : Asides (promises.angle attrs exprs) (free.angle attrs_bare exprs_bare)
+    pub turbofish : Asides (promises.turbofish attrs exprs) (free.angle attrs_bare exprs_bare)
+    pub parenthesized : Asides (promises.parenthesized attrs exprs) (free.parenthesized attrs_bare exprs_bare)
 
   -- types, in a place with plus or without
   pub record Types : Type 0 where
-    pub ty : (place : TypePlace) → Asides (promises.ty read_attrs read_values spelt_attrs spelt_values (normal.attributes normals) (normal_values_of normals) (outer prints) (values_of prints) place) (free.ty (free_attrs.attributes subtree) (free_attrs.value subtree))
-    pub return_type : (place : TypePlace) → Asides (promises.return_type read_attrs read_values spelt_attrs spelt_values (normal.attributes normals) (normal_values_of normals) (outer prints) (values_of prints) place) (free.return_type (free_attrs.attributes subtree) (free_attrs.value subtree))
-    pub trait_object : (place : TypePlace) → Asides (promises.trait_object read_attrs read_values spelt_attrs spelt_values (normal.attributes normals) (normal_values_of normals) (outer prints) (values_of prints) place) (free.trait_object (free_attrs.attributes subtree) (free_attrs.value subtree))
-    pub impl_trait : (place : TypePlace) → Asides (promises.impl_trait read_attrs read_values spelt_attrs spelt_values (normal.attributes normals) (normal_values_of normals) (outer prints) (values_of prints) place) (free.impl_trait (free_attrs.attributes subtree) (free_attrs.value subtree))
-    pub array : Asides (promises.array read_attrs read_values spelt_attrs spelt_values (normal.attributes normals) (normal_values_of normals) (outer prints) (values_of prints)) (free.array (free_attrs.attributes subtree) (free_attrs.value subtree))
-    pub fn_ptr : Asides (promises.fn_ptr read_attrs read_values spelt_attrs spelt_values (normal.attributes normals) (normal_values_of normals) (outer prints) (values_of prints)) (free.fn_ptr (free_attrs.attributes subtree) (free_attrs.value subtree))
-    pub group : Asides (promises.group read_attrs read_values spelt_attrs spelt_values (normal.attributes normals) (normal_values_of normals) (outer prints) (values_of prints)) (free.group (free_attrs.attributes subtree) (free_attrs.value subtree))
-    pub paren : Asides (promises.paren read_attrs read_values spelt_attrs spelt_values (normal.attributes normals) (normal_values_of normals) (outer prints) (values_of prints)) (free.paren (free_attrs.attributes subtree) (free_attrs.value subtree))
-    pub path_type : Asides (promises.path_type read_attrs read_values spelt_attrs spelt_values (normal.attributes normals) (normal_values_of normals) (outer prints) (values_of prints)) (free.path_type (free_attrs.attributes subtree) (free_attrs.value subtree))
-    pub ptr : Asides (promises.ptr read_attrs read_values spelt_attrs spelt_values (normal.attributes normals) (normal_values_of normals) (outer prints) (values_of prints)) (free.ptr (free_attrs.attributes subtree) (free_attrs.value subtree))
-    pub reference : Asides (promises.reference read_attrs read_values spelt_attrs spelt_values (normal.attributes normals) (normal_values_of normals) (outer prints) (values_of prints)) (free.reference (free_attrs.attributes subtree) (free_attrs.value subtree))
-    pub slice : Asides (promises.slice read_attrs read_values spelt_attrs spelt_values (normal.attributes normals) (normal_values_of normals) (outer prints) (values_of prints)) (free.slice (free_attrs.attributes subtree) (free_attrs.value subtree))
-    pub tuple : Asides (promises.tuple read_attrs read_values spelt_attrs spelt_values (normal.attributes normals) (normal_values_of normals) (outer prints) (values_of prints)) (free.tuple (free_attrs.attributes subtree) (free_attrs.value subtree))
-    pub named_arg : Asides (promises.named_arg read_attrs read_values spelt_attrs spelt_values (normal.attributes normals) (normal_values_of normals) (outer prints) (values_of prints)) (free.named_arg (free_attrs.attributes subtree) (free_attrs.value subtree))
-    pub infer : Asides (plain.infer (normal.attributes normals)) (free.infer (free_attrs.attributes subtree) (free_attrs.value subtree))
-    pub never : Asides (plain.never (normal.attributes normals)) (free.never (free_attrs.attributes subtree) (free_attrs.value subtree))
-    pub macro_type : Asides (plain.macro_type (normal.attributes normals)) (free.macro_type (free_attrs.attributes subtree) (free_attrs.value subtree))
+    pub ty : (place : TypePlace) → Asides (promises.ty attrs exprs place) (free.ty attrs_bare exprs_bare)
+    pub return_type : (place : TypePlace) → Asides (promises.return_type attrs exprs place) (free.return_type attrs_bare exprs_bare)
+    pub trait_object : (place : TypePlace) → Asides (promises.trait_object attrs exprs place) (free.trait_object attrs_bare exprs_bare)
+    pub impl_trait : (place : TypePlace) → Asides (promises.impl_trait attrs exprs place) (free.impl_trait attrs_bare exprs_bare)
+    pub array : Asides (promises.array attrs exprs) (free.array attrs_bare exprs_bare)
+    pub fn_ptr : Asides (promises.fn_ptr attrs exprs) (free.fn_ptr attrs_bare exprs_bare)
+    pub group : Asides (promises.group attrs exprs) (free.group attrs_bare exprs_bare)
+    pub paren : Asides (promises.paren attrs exprs) (free.paren attrs_bare exprs_bare)
+    pub path_type : Asides (promises.path_type attrs exprs) (free.path_type attrs_bare exprs_bare)
+    pub ptr : Asides (promises.ptr attrs exprs) (free.ptr attrs_bare exprs_bare)
+    pub reference : Asides (promises.reference attrs exprs) (free.reference attrs_bare exprs_bare)
+    pub slice : Asides (promises.slice attrs exprs) (free.slice attrs_bare exprs_bare)
+    pub tuple : Asides (promises.tuple attrs exprs) (free.tuple attrs_bare exprs_bare)
+    pub named_arg : Asides (promises.named_arg attrs exprs) (free.named_arg attrs_bare exprs_bare)
+    pub infer : Asides (plain.infer attrs.normal) (free.infer attrs_bare exprs_bare)
+    pub never : Asides (plain.never attrs.normal) (free.never attrs_bare exprs_bare)
+    pub macro_type : Asides (plain.macro_type attrs.normal) (free.macro_type attrs_bare exprs_bare)
 
   -- parameters, binders and bounds
   pub record Parameters : Type 0 where
-    pub param : Asides (promises.param read_attrs read_values spelt_attrs spelt_values (normal.attributes normals) (normal_values_of normals) (outer prints) (values_of prints)) (free.param (free_attrs.attributes subtree) (free_attrs.value subtree))
-    pub lifetime_param : Asides (promises.lifetime_param read_attrs spelt_attrs (normal.attributes normals) (outer prints)) (free.lifetime_param (free_attrs.attributes subtree) (free_attrs.value subtree))
-    pub type_param : Asides (promises.type_param read_attrs read_values spelt_attrs spelt_values (normal.attributes normals) (normal_values_of normals) (outer prints) (values_of prints)) (free.type_param (free_attrs.attributes subtree) (free_attrs.value subtree))
-    pub const_param : Asides (promises.const_param read_attrs read_values spelt_attrs spelt_values (normal.attributes normals) (normal_values_of normals) (outer prints) (values_of prints)) (free.const_param (free_attrs.attributes subtree) (free_attrs.value subtree))
-    pub binder : Asides (promises.binder read_attrs read_values spelt_attrs spelt_values (normal.attributes normals) (normal_values_of normals) (outer prints) (values_of prints)) (free.bound_lifetimes (free_attrs.attributes subtree) (free_attrs.value subtree))
-    pub optional_binder : Asides (promises.optional_binder read_attrs read_values spelt_attrs spelt_values (normal.attributes normals) (normal_values_of normals) (outer prints) (values_of prints)) (option_map (free.bound_lifetimes (free_attrs.attributes subtree) (free_attrs.value subtree)))
-    pub bound : Asides (promises.bound read_attrs read_values spelt_attrs spelt_values (normal.attributes normals) (normal_values_of normals) (outer prints) (values_of prints)) (free.bound (free_attrs.attributes subtree) (free_attrs.value subtree))
-    pub trait_bound : Asides (promises.trait_bound read_attrs read_values spelt_attrs spelt_values (normal.attributes normals) (normal_values_of normals) (outer prints) (values_of prints)) (free.trait_bound (free_attrs.attributes subtree) (free_attrs.value subtree))
+    pub param : Asides (promises.param attrs exprs) (free.param attrs_bare exprs_bare)
+    pub lifetime_param : Asides (promises.lifetime_param attrs) (free.lifetime_param attrs_bare exprs_bare)
+    pub type_param : Asides (promises.type_param attrs exprs) (free.type_param attrs_bare exprs_bare)
+    pub const_param : Asides (promises.const_param attrs exprs) (free.const_param attrs_bare exprs_bare)
+    pub binder : Asides (promises.binder attrs exprs) (free.bound_lifetimes attrs_bare exprs_bare)
+    pub optional_binder : Asides (promises.optional_binder attrs exprs) (option_map (free.bound_lifetimes attrs_bare exprs_bare))
+    pub bound : Asides (promises.bound attrs exprs) (free.bound attrs_bare exprs_bare)
+    pub trait_bound : Asides (promises.trait_bound attrs exprs) (free.trait_bound attrs_bare exprs_bare)
 
   -- generics and where clauses
   pub record Generics : Type 0 where
-    pub generics : Asides (clauses.generics read_attrs read_values spelt_attrs spelt_values (normal.attributes normals) (normal_values_of normals) (outer prints) (values_of prints)) (free_generics.generics (free_attrs.attributes subtree) (free_attrs.value subtree))
-    pub where_clause : Asides (clauses.where_clause read_attrs read_values spelt_attrs spelt_values (normal.attributes normals) (normal_values_of normals) (outer prints) (values_of prints)) (free_generics.where_clause (free_attrs.attributes subtree) (free_attrs.value subtree))
-    pub optional_where_clause : Asides (clauses.optional_where_clause read_attrs read_values spelt_attrs spelt_values (normal.attributes normals) (normal_values_of normals) (outer prints) (values_of prints)) (option_map (free_generics.where_clause (free_attrs.attributes subtree) (free_attrs.value subtree)))
-    pub predicate : Asides (clauses.predicate read_attrs read_values spelt_attrs spelt_values (normal.attributes normals) (normal_values_of normals) (outer prints) (values_of prints)) (free_generics.predicate (free_attrs.attributes subtree) (free_attrs.value subtree))
+    pub generics : Asides (clauses.generics attrs exprs) (free_generics.generics attrs_bare exprs_bare)
+    pub where_clause : Asides (clauses.where_clause attrs exprs) (free_generics.where_clause attrs_bare exprs_bare)
+    pub optional_where_clause : Asides (clauses.optional_where_clause attrs exprs) (option_map (free_generics.where_clause attrs_bare exprs_bare))
+    pub predicate : Asides (clauses.predicate attrs exprs) (free_generics.predicate attrs_bare exprs_bare)
 
   -- patterns: single, multi and with leading vert; with a guard; and with a type
   pub record Patterns : Type 0 where
-    pub pat : (place : PatPlace) → Asides (patterns.pat reads spells normals prints place) (free_patterns.pat subtree)
-    pub guarded : Asides (patterns.guarded reads spells normals prints) (free_patterns.pat subtree)
-    pub typed : Asides (patterns.typed reads spells normals prints) (free_patterns.typed subtree)
+    pub pat : (place : PatPlace) → Asides (patterns.pat sub place) (free_patterns.pat sub.bare)
+    pub guarded : Asides (patterns.guarded sub) (free_patterns.pat sub.bare)
+    pub typed : Asides (patterns.typed sub) (free_patterns.typed sub.bare)

@@ -1,17 +1,15 @@
 -- The fields of a struct's pattern are read turn by turn, of any number of turns that are left.
 use Rattle.std.proofs.Common.{◌≡◌, ℕ, zero, suc, ◌<◌, ◌≤◌, Bool, true, false, [], ◌∷◌, ◌++◌, Option, Some, None, Ok, Err, refl, sym, ◌∙◌, ap, subst, arith, if◌then◌else◌, append_assoc, append-nil}
+use Rattle.syn_pat.proofs.pat_laws.words.Tokens.{Many, size, Outcome, Reader, and_then, ◌>>=◌, is_done, pure, Refusal, Stream}
+use Rattle.syn_pat.proofs.pat_laws.words.Paths.{Place}
+use Rattle.syn_pat.proofs.pat_laws.words.Forms.{comma}
+use Rattle.syn_pat.proofs.pat_laws.words.Attributes.{outer}
+use Rattle.syn_pat.proofs.pat_laws.words.Types.{Comma}
+use Rattle.syn_pat.proofs.pat_laws.words.Patterns.{Attrs, PatRest, rest_of, PatOver, ReadersOver, field, fields, fields_from, no_fields, one_field, put_field, FieldPatOf}
 use Rattle.syn_attr.specs.attr.Attrs.{Attribute as Attr}
-use Rattle.syn_attr.specs.attr.Reading.{outer}
-use Rattle.syn_forms.specs.tokens.Reading.{comma}
-use Rattle.syn_pat.specs.pat.Pats.{Attrs, PatRest, rest_of, PatOver}
-use Rattle.syn_pat.specs.pat.Reading.{FieldsOver, ReadersOver, field, fields, fields_from, no_fields, one_field, put_field}
-use Rattle.syn_path.specs.declared.supplied.Place.{Place}
-use Rattle.syn_ty.specs.ty.Types.{Comma}
-use Rattle.token_core.specs.Loops.{Many, onto, size}
-use Rattle.token_core.specs.Reads.{Outcome, Reader, and_then, ◌>>=◌, ◌<$>◌, is_done, pure}
-use Rattle.token_core.specs.Refusal.{Refusal}
-use Rattle.token_core.specs.Stream.{Stream}
-use Rattle.syn_pat.specs.declared.pat.FieldPatOf.{FieldPatOf}
+use Rattle.syn_pat.specs.pat.Reading.{FieldsOver}
+use Rattle.token_core.specs.Loops.{onto}
+use Rattle.token_core.specs.Reads.{◌<$>◌}
 use Rattle.token_core.specs.Tokens as token
 
 module _ {X G Q T : Type 0} where

@@ -1,21 +1,16 @@
 -- What patterns in groups read, step by step.
 use Rattle.std.proofs.Common.{◌≡◌, ◌&&◌, not, false, [], Ok, Err, refl, ◌∙◌, ap}
-use Rattle.token_core.specs.declared.span.DelimSpan.{DelimSpan}
+use Rattle.syn_pat.proofs.pat_laws.words.Tokens.{DelimSpan, Many, Reader, Outcome, and_then, pure, is_done, Stream}
+use Rattle.syn_pat.proofs.pat_laws.words.Forms.{at_end, before_end, list_from, comma}
+use Rattle.syn_pat.proofs.pat_laws.words.Types.{Comma}
+use Rattle.syn_pat.proofs.pat_laws.words.Patterns.{Element, LeadingVert, PatOver, is_rest, slice_of, ReadersOver, elements, paren_content, slice}
 use Rattle.token_core.specs.declared.token.Bracket.{Bracket}
 use Rattle.token_core.specs.declared.tree.Delimiter.TheVariants as d
 use Rattle.token_core.specs.Groups as groups
-use Rattle.token_core.specs.Loops.{Many}
-use Rattle.token_core.specs.Reads.{Reader, Outcome, and_then, pure, open_group, closing, finished, is_done}
-use Rattle.token_core.specs.Stream.{Stream}
+use Rattle.token_core.specs.Reads.{open_group, closing, finished}
 use Rattle.token_core.proofs.Steps.{chosen, link}
 use Rattle.syn_forms.specs.groups.Reading.{in_brackets}
-use Rattle.syn_forms.specs.lists.Reading.{at_end, before_end, list_from}
-use Rattle.syn_forms.specs.tokens.Reading.{comma}
-use Rattle.syn_ty.specs.ty.Types.{Comma}
 use Rattle.syn_pat.specs.declared.pat.read.groups.InParens.TheVariants as held
-use Rattle.syn_pat.specs.declared.place.PatPlace.TheVariants.{Element, LeadingVert}
-use Rattle.syn_pat.specs.pat.Pats.{PatOver, is_rest, slice_of}
-use Rattle.syn_pat.specs.pat.Reading.{ReadersOver, elements, paren_content, slice}
 
 -- ---- brackets
 

@@ -1,14 +1,14 @@
 -- The read of patterns meets its equation: one turn, over the reads of streams of which less is left.
 use Rattle.std.proofs.Common.{◌≡◌, ℕ, zero, suc, ◌<◌, refl, ◌∙◌, ap, arith}
 use Rattle.std.proofs.Math.Path.{fun_ext}
-use Rattle.token_core.specs.Reads.{Reader}
-use Rattle.token_core.specs.Stream.{Stream}
-use Rattle.syn_forms.specs.nested.Below.{ahead, below, held}
+use Rattle.syn_pat.proofs.pat_laws.words.Tokens.{Reader, Stream}
+use Rattle.syn_pat.proofs.pat_laws.words.Paths.{Place}
+use Rattle.syn_pat.proofs.pat_laws.words.Forms.{ahead}
+use Rattle.syn_pat.proofs.pat_laws.words.Patterns.{PatPlace, pat, ReadersOver, pat_step}
+use Rattle.syn_forms.specs.nested.Below.{below, held}
 use Rattle.syn_forms.proofs.nested_laws.Below.{below_same}
-use Rattle.syn_path.specs.declared.supplied.Place.{Place}
-use Rattle.syn_pat.specs.declared.place.PatPlace.{PatPlace}
-use Rattle.syn_pat.specs.pat.Knot.{read_at, pat, pats_below}
-use Rattle.syn_pat.specs.pat.Reading.{Named, ReadersOver, pat_step}
+use Rattle.syn_pat.specs.pat.Knot.{read_at, pats_below}
+use Rattle.syn_pat.specs.pat.Reading.{Named}
 
 module _ {X G Q T : Type 0} (supplied : Place → Reader X) (names : Named G Q) where
   -- readers that are asked below a limit

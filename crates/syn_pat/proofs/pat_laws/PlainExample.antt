@@ -1,20 +1,14 @@
 -- An example: `box 1..`, whose dots are glued to what follows, is held plainly, as in `(box 1..,x)` and `box 1..|x`.
 use Rattle.std.proofs.Common.{◌≡◌, [], ◌∷◌, codes, refl, sym, ◌∙◌, ap, subst}
-use Rattle.token_core.specs.declared.span.Span.{Span}
+use Rattle.syn_pat.proofs.pat_laws.words.Tokens.{Span, Joint, is_done, is_mark, last_char, more_chars, is_word, a_literal, Toks, done, word, mark, lit, TokenStream, punct, row, trees}
+use Rattle.syn_pat.proofs.pat_laws.words.Paths.{Place}
+use Rattle.syn_pat.proofs.pat_laws.words.Types.{plainly, clearly, IsVerbatim}
+use Rattle.syn_pat.proofs.pat_laws.words.Patterns.{IsBoxed, a_box, a_single, a_range, a_literal_start, without_end, pats_to}
 use Rattle.token_core.specs.declared.tree.LitKind.TheVariants.{Int}
-use Rattle.token_core.specs.declared.tree.Spacing.TheVariants.{Joint}
 use Rattle.token_core.specs.declared.tree.TokenTree.TheVariants as t
-use Rattle.token_core.specs.Reads.{is_done}
-use Rattle.token_core.specs.Spellings.{is_mark, last_char, more_chars, is_word, a_literal}
-use Rattle.token_core.specs.Toks.{Toks, done, word, mark, lit}
-use Rattle.token_core.specs.Trees.{TokenStream, ident, literal, punct, row, trees}
+use Rattle.token_core.specs.Trees.{ident, literal}
 use Rattle.token_core.proofs.Rebuilds.{tree-ident, tree-literal, tree-punct}
-use Rattle.syn_path.specs.declared.supplied.Place.{Place}
 use Rattle.syn_path.specs.Ends.{NoBang}
-use Rattle.syn_ty.specs.ty.Parts.{plainly, clearly, IsVerbatim}
-use Rattle.syn_pat.specs.pat.Admitted.{IsBoxed, a_box, a_single, a_range}
-use Rattle.syn_pat.specs.pat.Spelling.{a_literal_start, without_end}
-use Rattle.syn_pat.specs.pat.Spelt.{pats_to}
 use Rattle.syn_pat.proofs.pat_laws.reprint.Parts.{stops_done}
 
 module _ {X : Type 0} (spells : Place → X → Toks → Type 0) (a b c d : Span) where

@@ -1,12 +1,10 @@
 -- Steps of the reads of patterns: a token that may be there, and what braces hold.
 use Rattle.std.proofs.Common.{◌≡◌, Ok, Err, refl, ◌∙◌, ap}
-use Rattle.token_core.specs.declared.span.DelimSpan.{DelimSpan}
+use Rattle.syn_pat.proofs.pat_laws.words.Tokens.{DelimSpan, Outcome, Reader, and_then, in_group, pure, Refusal, Stream}
 use Rattle.token_core.specs.declared.token.Brace.{Brace}
 use Rattle.token_core.specs.declared.tree.Delimiter.TheVariants as d
 use Rattle.token_core.specs.Groups as groups
-use Rattle.token_core.specs.Reads.{Outcome, Reader, ◌<$>◌, and_then, closing, finished, in_group, open_group, pure}
-use Rattle.token_core.specs.Refusal.{Refusal}
-use Rattle.token_core.specs.Stream.{Stream}
+use Rattle.token_core.specs.Reads.{◌<$>◌, closing, finished, open_group}
 pub use Rattle.syn_path.proofs.Steps.{optional_read, optional_refused}
 
 -- ---- braces

@@ -1,14 +1,11 @@
 -- Less is left after `@`, after `|` and after `box`.
 use Rattle.std.specs.Prelude.{IfOk, Result}
 use Rattle.std.proofs.Common.{ℕ, ◌<◌, ◌≡◌, [], ◌∷◌, Ok, Err, refl}
+use Rattle.syn_pat.proofs.pat_laws.words.Tokens.{Mark, Word, Refusal, Stream}
+use Rattle.syn_pat.proofs.pat_laws.words.Forms.{ahead}
 use Rattle.syn_forms.proofs.nested_laws.Ahead.{ahead_less, mark_ahead, named_word_takes}
-use Rattle.syn_forms.specs.nested.Below.{ahead}
-use Rattle.token_core.specs.declared.mark.Mark.{Mark}
-use Rattle.token_core.specs.declared.word.Word.{Word}
 use Rattle.token_core.specs.Marks.{chars_of, read, read_named}
 use Rattle.token_core.specs.Reads.{Fails, Follows, Gives, Parsed}
-use Rattle.token_core.specs.Refusal.{Refusal}
-use Rattle.token_core.specs.Stream.{Stream}
 
 taken : (n l c : ℕ) (cs : _) → chars_of n ≡ c ∷ cs → (s t : Stream) (r : Result (Mark n l) Refusal) → Parsed (Gives (read n l) s) (Fails (read n l) s) r t → Follows s t → IfOk r (λ _. ahead t < ahead s)
 taken n l c cs h s t (Ok m) e f = mark_ahead n l c cs h s t m e f

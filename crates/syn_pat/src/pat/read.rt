@@ -46,7 +46,7 @@ impl<X: Subtree> Pat<X> {
     /// slice is a range that lacks a bound. As `syn::Pat::parse_single`.
     pub fn parse_single(alloc: Global, input: &mut ParseStream<'_>) -> Result<Pat<X>, Error>
         ensures parses { Parses (knot.pat X.reads (type_names X.reads) Single) result input.old input.new }
-        ensures promise { Heads (promises.pat X.reads X.spells X.normal X.prints Single) input.old result input.new }
+        ensures promise { Heads (promises.pat X.Subtree Single) input.old result input.new }
         ensures front { Takes (fronts.pat X.spells Single) input.old result input.new }
     {
         parse_in::<X, PathArguments<X>, QSelf<X>, Type<X>>(alloc, input, PatPlace::Single)
@@ -61,7 +61,7 @@ impl<X: Subtree> Pat<X> {
     /// A `||` and a `|=` are left. It is refused where a pattern is, one before the first `|` too. As `syn::Pat::parse_multi`.
     pub fn parse_multi(alloc: Global, input: &mut ParseStream<'_>) -> Result<Pat<X>, Error>
         ensures parses { Parses (knot.pat X.reads (type_names X.reads) Multi) result input.old input.new }
-        ensures promise { Heads (promises.pat X.reads X.spells X.normal X.prints Multi) input.old result input.new }
+        ensures promise { Heads (promises.pat X.Subtree Multi) input.old result input.new }
         ensures front { Takes (fronts.pat X.spells Multi) input.old result input.new }
     {
         parse_in::<X, PathArguments<X>, QSelf<X>, Type<X>>(alloc, input, PatPlace::Multi)
@@ -79,8 +79,7 @@ impl<X: Subtree> Pat<X> {
         input: &mut ParseStream<'_>,
     ) -> Result<Pat<X>, Error>
         ensures parses { Parses (knot.pat X.reads (type_names X.reads) LeadingVert) result input.old input.new }
-        ensures promise { Heads (promises.pat X.reads X.spells X.normal X.prints LeadingVert)
-            input.old result input.new }
+        ensures promise { Heads (promises.pat X.Subtree LeadingVert) input.old result input.new }
         ensures front { Takes (fronts.pat X.spells LeadingVert) input.old result input.new }
     {
         parse_in::<X, PathArguments<X>, QSelf<X>, Type<X>>(alloc, input, PatPlace::LeadingVert)
@@ -98,7 +97,7 @@ impl<X: Subtree> Pat<X> {
         input: &mut ParseStream<'_>,
     ) -> Result<Pat<X>, Error>
         ensures parses { Parses (knot.guarded X.reads (type_names X.reads)) result input.old input.new }
-        ensures promise { Heads (promises.guarded X.reads X.spells X.normal X.prints) input.old result input.new }
+        ensures promise { Heads (promises.guarded X.Subtree) input.old result input.new }
     {
         parse_guarded::<X, PathArguments<X>, QSelf<X>, Type<X>>(alloc, input)
     }
@@ -169,12 +168,12 @@ impl<X: Subtree> Parse for PatType<X> {
 
     ghost refuses = { Fails (knot.typed X.reads) };
 
-    ghost promise = { Headline (promises.typed X.reads X.spells X.normal X.prints) };
+    ghost promise = { Headline (promises.typed X.Subtree) };
 
     fn parse(alloc: Global, input: &mut ParseStream<'_>) -> Result<PatType<X>, Error>
         ensures reads { Reads (knot.typed X.reads input.old) result input.new }
         ensures within { Follows input.old input.new }
-        ensures promise { Heads (promises.typed X.reads X.spells X.normal X.prints) input.old result input.new }
+        ensures promise { Heads (promises.typed X.Subtree) input.old result input.new }
         ensures front { Takes (fronts.typed X.spells) input.old result input.new }
     {
         parse_typed::<X, PathArguments<X>, QSelf<X>, Type<X>>(alloc, input)

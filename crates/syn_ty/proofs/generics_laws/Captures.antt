@@ -1,15 +1,10 @@
 -- Captured parameters are read turn by turn.
 use Rattle.std.proofs.Common.{◌≡◌, ◌<◌, Bool, true, false, not, [], ◌∷◌, ◌++◌, Ok, Err, ap, subst, ◌∙◌}
-use Rattle.token_core.specs.Loops.{Many, size}
-use Rattle.token_core.specs.Refusal.{Refusal}
-use Rattle.token_core.specs.Stream.{Stream}
-use Rattle.token_core.specs.Toks.{Toks}
-use Rattle.token_core.specs.Reads.{Reader}
+use Rattle.syn_ty.proofs.ty_laws.words.Tokens.{Many, size, Refusal, Stream, Toks, Reader}
+use Rattle.syn_ty.proofs.ty_laws.words.Forms.{list}
+use Rattle.syn_ty.proofs.ty_laws.words.Types.{CapturedParam, captured_comma, listed_captured}
 use Rattle.token_core.specs.Tokens as token
-use Rattle.syn_forms.specs.lists.Reading.{list}
 use Rattle.syn_forms.proofs.lists_laws.Turns as turns
-use Rattle.syn_ty.specs.declared.generics.CapturedParam.{CapturedParam}
-use Rattle.syn_ty.specs.generics.Reading.{captured_comma, listed_captured}
 
 abbrev pub Captures : Type 0
 Captures = Many CapturedParam token.Comma

@@ -1,16 +1,12 @@
 -- Bounds and parameters by what begins them and where they stand.
 use Rattle.std.specs.Prelude.{is_some}
 use Rattle.std.proofs.Common.{◌≡◌, true, false, List, Option, Some, None, Ok, refl, ap, ◌∙◌}
-use Rattle.syn_forms.specs.declared.places.BoundPlace.{BoundPlace}
-use Rattle.syn_forms.specs.declared.places.ParamPlace.{ParamPlace}
+use Rattle.syn_ty.proofs.ty_laws.words.Tokens.{sees_lifetime, Reader, and_then, Stream}
+use Rattle.syn_ty.proofs.ty_laws.words.Paths.{ReadValues}
+use Rattle.syn_ty.proofs.ty_laws.words.Forms.{BoundPlace, ParamPlace}
+use Rattle.syn_ty.proofs.ty_laws.words.Types.{binder_after, bound_step, in_binder, in_generics, optional_binder, param_after, param_step, Readers, BoundLifetimes}
 use Rattle.syn_forms.specs.declared.places.ParamPlace.TheVariants as p
-use Rattle.syn_path.specs.Values.{ReadValues}
-use Rattle.syn_ty.specs.generics.Reading.{binder_after, bound_step, capture_in_place, in_binder, in_generics, optional_binder, param_after, param_step, trait_in_place}
-use Rattle.syn_ty.specs.ty.Points.{Readers}
-use Rattle.syn_ty.specs.ty.Trees.{BoundLifetimes}
-use Rattle.token_core.specs.Lifetimes.{sees_lifetime}
-use Rattle.token_core.specs.Reads.{Reader, and_then}
-use Rattle.token_core.specs.Stream.{Stream}
+use Rattle.syn_ty.specs.generics.Reading.{capture_in_place, trait_in_place}
 use Rattle.token_core.specs.Tokens as token
 use Rattle.token_core.proofs.Steps.{chosen}
 

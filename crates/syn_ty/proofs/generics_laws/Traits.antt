@@ -1,16 +1,10 @@
 -- The signature that is refused after a trait bound.
 use Rattle.std.proofs.Common.{◌≡◌, Option, Ok, Err, ap}
-use Rattle.token_core.specs.Reads.{and_then}
-use Rattle.token_core.specs.Stream.{Stream}
+use Rattle.syn_ty.proofs.ty_laws.words.Tokens.{and_then, Stream, Refusal}
+use Rattle.syn_ty.proofs.ty_laws.words.Paths.{AsWritten}
+use Rattle.syn_ty.proofs.ty_laws.words.Forms.{question}
+use Rattle.syn_ty.proofs.ty_laws.words.Types.{TraitBoundModifiers, trait_of, binder_after, trait_after, BoundLifetimes, Path, path, signed, Readers}
 use Rattle.token_core.specs.Tokens as token
-use Rattle.syn_ty.specs.declared.generics.TraitBoundModifiers.{TraitBoundModifiers}
-use Rattle.syn_ty.specs.generics.Reading.{trait_of, binder_after, trait_after}
-use Rattle.syn_ty.specs.ty.Trees.{BoundLifetimes, Path}
-use Rattle.syn_path.specs.declared.path.PathStyle.TheVariants.{AsWritten}
-use Rattle.syn_forms.specs.tokens.Reading.{question}
-use Rattle.syn_ty.specs.path.Reading.{path, signed}
-use Rattle.syn_ty.specs.ty.Points.{Readers}
-use Rattle.token_core.specs.Refusal.{Refusal}
 use Rattle.token_core.proofs.Steps.{link}
 
 module _ {A E : Type 0} (r : Readers A E) where

@@ -1,15 +1,11 @@
 -- The name of an associated item: by the segment that a path is, and what follows a type that names none.
 use Rattle.std.proofs.Common.{◌≡◌, false, List, [], ◌∷◌, Option, Some, None, Ok, refl}
 use Rattle.std.specs.Prelude.{is_some}
+use Rattle.syn_ty.proofs.ty_laws.words.Tokens.{Stream}
+use Rattle.syn_ty.proofs.ty_laws.words.Paths.{ReadValues}
+use Rattle.syn_ty.proofs.ty_laws.words.Types.{out-PathArgumentsOf, Sep, ItemName, generics_layer, with_name, item_of_path, after_type, Readers, PathSegment, QSelf, TypeTree}
 use Rattle.syn_path.specs.path.Paths.{lone_of}
-use Rattle.syn_path.specs.Values.{ReadValues}
 use Rattle.syn_ty.specs.declared.path.GenericArgumentOf.TheVariants as g
-use Rattle.syn_ty.specs.declared.path.PathArgumentsOf.{out-PathArgumentsOf}
-use Rattle.syn_ty.specs.path.Paths.{Sep}
-use Rattle.syn_ty.specs.path.Reading.{ItemName, generics_layer, with_name, item_of_path, after_type}
-use Rattle.syn_ty.specs.ty.Points.{Readers}
-use Rattle.syn_ty.specs.ty.Trees.{PathSegment, QSelf, TypeTree}
-use Rattle.token_core.specs.Stream.{Stream}
 
 module _ {A E : Type 0} where
   abbrev pub name_of : Option (PathSegment A E) → Option (ItemName A E)

@@ -1,15 +1,10 @@
 -- The path of a trait and its signature, in two steps: the `::` with the signature, and the path with it.
 use Rattle.std.proofs.Common.{◌≡◌, true, ◌&&◌, if◌then◌else◌, Option, Ok, Err, refl, ap, ◌∙◌}
+use Rattle.syn_ty.proofs.ty_laws.words.Tokens.{Outcome, Reader, ◌>>=◌, and_then, optional, pure, Refusal, Stream}
+use Rattle.syn_ty.proofs.ty_laws.words.Paths.{sees_sep, sep}
+use Rattle.syn_ty.proofs.ty_laws.words.Types.{Sep, parenthesized, sees_signature, signed, takes_signature, Readers, Parenthesized, Path}
 use Rattle.syn_forms.specs.paths.Reading as paths
-use Rattle.syn_path.specs.path.Reading.{sees_sep, sep}
 use Rattle.syn_ty.specs.declared.path.PathArgumentsOf.TheVariants as a
-use Rattle.syn_ty.specs.path.Paths.{Sep}
-use Rattle.syn_ty.specs.path.Reading.{parenthesized, sees_signature, signed, takes_signature}
-use Rattle.syn_ty.specs.ty.Points.{Readers}
-use Rattle.syn_ty.specs.ty.Trees.{Parenthesized, Path}
-use Rattle.token_core.specs.Reads.{Outcome, Reader, ◌>>=◌, and_then, optional, pure}
-use Rattle.token_core.specs.Refusal.{Refusal}
-use Rattle.token_core.specs.Stream.{Stream}
 
 module _ {A E : Type 0} (r : Readers A E) (p : Path A E) where
   abbrev with_signature : Parenthesized A E → Reader (Path A E)

@@ -1,22 +1,16 @@
 -- The grammar of types meets its laws on the front of a list, where those of attributes and expressions are given: before what may follow, its read is sound and complete, and what it spells plainly is reprinted.
-use Rattle.std.proofs.Common.{◌≡◌, Bool, true, List, Ok, refl}
+use Rattle.std.proofs.Common.{◌≡◌, Bool, true, Ok, refl}
+use Rattle.syn_ty.proofs.ty_laws.words.Tokens.{Print, Reader, is_done, Visible, Stream, Toks, done}
+use Rattle.syn_ty.proofs.ty_laws.words.Paths.{TookOne}
+use Rattle.syn_ty.proofs.ty_laws.words.Forms.{Plus}
+use Rattle.syn_ty.proofs.ty_laws.words.Types.{IsType, Manner, loosely, clearly, Relation}
 use Rattle.token_core.specs.Fronted.{FrontLaws}
-use Rattle.token_core.specs.Prints.{Print}
-use Rattle.token_core.specs.Reads.{Reader, is_done}
-use Rattle.token_core.specs.Rebuilt.{Visible}
-use Rattle.token_core.specs.Stream.{Stream}
 use Rattle.token_core.specs.Tokens as token
-use Rattle.token_core.specs.Toks.{Toks, done}
 use Rattle.token_core.proofs.Steps.{Reads_to}
 use Rattle.token_core.proofs.Took.{at}
-use Rattle.syn_path.specs.Took.{TookOne}
-use Rattle.syn_path.specs.Values.{NormalValues, ReadValues, SpelledValues, Values}
-use Rattle.syn_forms.specs.declared.places.TypePlace.TheVariants.{Plus}
-use Rattle.syn_ty.specs.ty.Admitted.{IsType}
-use Rattle.syn_ty.specs.ty.Parts.{Manner, loosely, clearly}
+use Rattle.syn_path.specs.Traits.{Attributes, Expressions}
 use Rattle.syn_ty.specs.ty.Promises as promises
 use Rattle.syn_ty.specs.ty.Promises.{follows_type, fronting, promise}
-use Rattle.syn_ty.specs.ty.Spelling.{Relation}
 use Rattle.syn_ty.specs.ty.Spelt as by
 use Rattle.syn_ty.proofs.ty_laws.complete.Alone.{ty_met}
 use Rattle.syn_ty.proofs.ty_laws.sound.Alone.{begun_ending, ty_took}
@@ -52,9 +46,9 @@ lawful_on_fronts Is follows told met reprint = record {
 type_over : (k : Toks) → follows_type k ≡ true → Over k
 type_over k h = of_either (is_done k) (token.sees_comma k) (done_over k) (comma_over k) h
 
-module _ {A E : Type 0} {attrs : Reader (List A)} {values : ReadValues E} {shown : Bool → List A → Toks → Toks → Type 0} {spelt : SpelledValues E} {na : List A → List A} {ne : NormalValues E} {pa : List A → Print} {pe : Values E}
-    (g : Given attrs values shown spelt) (m : GivenMeets attrs values shown spelt) (a : GivenAgain na ne pa pe shown spelt) where
-  pub ty_fronts : FrontLaws (promises.ty_front attrs values shown spelt na ne pa pe)
+module _ {A E : Type 0} (attrs : Attributes A) (exprs : Expressions E) (g : Given attrs.reads exprs.reads attrs.spells exprs.spells) (m : GivenMeets attrs.reads exprs.reads attrs.spells exprs.spells)
+    (a : GivenAgain attrs.normal exprs.normal attrs.shown exprs.values attrs.spells exprs.spells) where
+  pub ty_fronts : FrontLaws (promises.ty_front attrs exprs)
   ty_fronts =
-      lawful_on_fronts (by.BeginsType shown spelt Plus) follows_type (λ s t x v e. begun_ending shown spelt (λ part how. IsType part how Plus) s t x (ty_took g Plus s t x v e))
+      lawful_on_fronts (by.BeginsType attrs.spells exprs.spells Plus) follows_type (λ s t x v e. begun_ending attrs.spells exprs.spells (λ part how. IsType part how Plus) s t x (ty_took g Plus s t x v e))
       (λ s x k i o. let c = type_over k o in ty_met m i.0 Plus i.1 x s.rest k s.left s.last s.scope i.2 (over_fits i.1 k c) (λ q. c.no_plus)) (again.ty_fronts a Plus)

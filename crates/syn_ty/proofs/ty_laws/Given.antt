@@ -1,18 +1,12 @@
 -- What is known of the reads of attributes and expressions, however high the trees that hold them; and from it what forms suppose of them at each height.
 use Rattle.std.proofs.Common.{◌≡◌, ℕ, suc, Bool, true, false, List, None, Ok, sym, ◌∙◌, ap}
-use Rattle.token_core.specs.Prints.{Print}
-use Rattle.token_core.specs.Reads.{Reader, leaves}
-use Rattle.token_core.specs.Rebuilt.{Visible}
-use Rattle.token_core.specs.Stream.{Stream}
-use Rattle.token_core.specs.Toks.{Toks}
+use Rattle.syn_ty.proofs.ty_laws.words.Tokens.{Print, Reader, leaves, Visible, Stream, Toks}
+use Rattle.syn_ty.proofs.ty_laws.words.Paths.{AttributeLaws, ReadValues, SpelledValues, Along}
+use Rattle.syn_ty.proofs.ty_laws.words.Types.{sees_const, spelt_to}
 use Rattle.token_core.proofs.Turns.{same_pair}
 use Rattle.syn_path.proofs.Words.{TookOne}
-use Rattle.syn_path.specs.Lengths.{AttributeLaws, ConstLaws, LengthLaws}
-use Rattle.syn_path.specs.Values.{ReadValues, SpelledValues}
+use Rattle.syn_path.specs.Lengths.{ConstLaws, LengthLaws}
 use Rattle.syn_forms.proofs.tokens_laws.Fronts.{nothing_left}
-use Rattle.syn_ty.specs.path.Reading.{sees_const}
-use Rattle.syn_ty.specs.ty.Spelt.{spelt_to}
-use Rattle.syn_path.specs.Took.{Along}
 use Rattle.syn_ty.proofs.ty_laws.sound.Within.{Supplied}
 
 -- ---- lengths that meet their laws

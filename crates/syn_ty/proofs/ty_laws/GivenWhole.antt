@@ -1,21 +1,16 @@
 -- The laws of attributes and expressions give what completeness and reprint of types suppose of them, however high the trees that hold them.
 use Rattle.std.proofs.Common.{◌≡◌, Bool, true, false, List, Option, sym, ◌∙◌, subst}
-use Rattle.token_core.specs.declared.span.Span.{Span}
-use Rattle.token_core.specs.Prints.{Print}
-use Rattle.token_core.specs.Reads.{Reader}
-use Rattle.token_core.specs.Spans.{none}
-use Rattle.token_core.specs.Stream.{Scope, Stream, started}
+use Rattle.syn_ty.proofs.ty_laws.words.Tokens.{Span, Print, Reader, none, Scope, Stream, Toks, done, row}
+use Rattle.syn_ty.proofs.ty_laws.words.Paths.{NormalValues, ReadValues, SpelledValues, Values}
+use Rattle.syn_ty.proofs.ty_laws.words.Types.{sees_const}
+use Rattle.token_core.specs.Stream.{started}
 use Rattle.token_core.specs.Tokens as token
-use Rattle.token_core.specs.Toks.{Toks, done}
-use Rattle.token_core.specs.Trees.{row}
 use Rattle.token_core.proofs.Steps.{Reads_to}
 use Rattle.token_core.proofs.Took.{at}
 use Rattle.token_core.proofs.Turns.{same_pair}
 use Rattle.syn_path.specs.Lengths.{BareLaws, LengthLaws}
-use Rattle.syn_path.specs.Values.{NormalValues, ReadValues, SpelledValues, Values}
 use Rattle.syn_path.specs.Whole.{Answers, AttributesMeet, ConstsMeet, Fewer, NotMore, ReprintsFront}
 use Rattle.syn_path.proofs.Words.{AgainFront}
-use Rattle.syn_ty.specs.path.Reading.{sees_const}
 use Rattle.syn_ty.proofs.ty_laws.reprint.Knot.{GivenAgain}
 use Rattle.syn_ty.proofs.ty_laws.complete.Knot.{GivenMeets}
 use Rattle.syn_ty.proofs.ty_laws.complete.Within.{Less, NoMore}

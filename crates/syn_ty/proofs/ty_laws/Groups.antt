@@ -1,25 +1,16 @@
 -- A type read at an invisible group is what follows the group says it is.
 use Rattle.std.proofs.Common.{◌≡◌, Bool, true, false, not, ◌&&◌, List, [], Option, Some, None, Ok, inl, inr, refl, sym, ◌∙◌, ap, subst}
-use Rattle.syn_forms.specs.declared.places.TypePlace.{TypePlace}
-use Rattle.syn_forms.specs.declared.places.TypePlace.TheVariants.{Plus}
-use Rattle.syn_forms.specs.groups.Reading.{in_invisible}
-use Rattle.syn_forms.specs.nested.Below.{ahead}
+use Rattle.syn_ty.proofs.ty_laws.words.Tokens.{GroupToken, sees_invisible, Reader, pure, Stream}
+use Rattle.syn_ty.proofs.ty_laws.words.Paths.{ReadValues, AsWritten}
+use Rattle.syn_ty.proofs.ty_laws.words.Forms.{TypePlace, Plus, in_invisible, ahead}
+use Rattle.syn_ty.proofs.ty_laws.words.Types.{path, reads_below, ty, Readers, a_type, some_arguments, as_path, type_step, TypePath, TypeTree, qualified_with}
 use Rattle.syn_forms.specs.paths.Reading as paths
-use Rattle.syn_path.specs.Values.{ReadValues}
-use Rattle.syn_path.specs.declared.path.PathStyle.TheVariants.{AsWritten}
 use Rattle.syn_ty.specs.declared.ty.TypeOf.TheVariants as v
-use Rattle.syn_ty.specs.path.Reading.{path, rest}
+use Rattle.syn_ty.specs.path.Reading.{rest}
 use Rattle.syn_ty.specs.ty.GroupCases.{ReadsOn, IsReadGrouped, alone, arguments, grouped, qualifies, segments}
 use Rattle.syn_ty.specs.ty.Groups.{takes_arguments}
-use Rattle.syn_ty.specs.ty.Knot.{reads_below, ty}
-use Rattle.syn_ty.specs.ty.Points.{Readers, a_type, some_arguments}
-use Rattle.syn_ty.specs.ty.Reading.{after_group, as_path, group_type, group_with_arguments, group_with_segments, group_without_segments, has_arguments, path_within, qself_in, sees_further_arguments, sees_further_segment, type_step, with_arguments, with_path}
-use Rattle.syn_ty.specs.ty.Trees.{TypePath, TypeTree}
-use Rattle.syn_ty.specs.ty.Types.{group_with, qualified_with}
-use Rattle.token_core.specs.declared.token.GroupToken.{GroupToken}
-use Rattle.token_core.specs.Groups.{sees_invisible}
-use Rattle.token_core.specs.Reads.{Reader, pure}
-use Rattle.token_core.specs.Stream.{Stream}
+use Rattle.syn_ty.specs.ty.Reading.{after_group, group_type, group_with_arguments, group_with_segments, group_without_segments, has_arguments, path_within, qself_in, sees_further_arguments, sees_further_segment, with_arguments, with_path}
+use Rattle.syn_ty.specs.ty.Types.{group_with}
 use Rattle.token_core.proofs.Took.{branch, mapped}
 use Rattle.token_core.proofs.Turns.{chain, same_pair}
 use Rattle.syn_ty.proofs.ty_laws.Knot.{ty-turn}

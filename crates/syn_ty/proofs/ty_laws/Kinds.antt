@@ -1,8 +1,9 @@
 -- Questions about bounds and types that were read, case by case.
 use Rattle.std.proofs.Common.{◌≡◌, if◌then◌else◌, Bool, true, false, List, [], ◌∷◌, ◌++◌, Option, Some, None, Ok, refl, ap}
 use Rattle.std.specs.Prelude.{slice_get}
-use Rattle.syn_forms.specs.lists.Reading.{plus_follows}
-use Rattle.syn_ty.specs.declared.generics.PreciseCapture.{PreciseCapture}
+use Rattle.syn_ty.proofs.ty_laws.words.Tokens.{Lifetime, Paren, TokenStream, Many, pure, Stream}
+use Rattle.syn_ty.proofs.ty_laws.words.Forms.{plus_follows}
+use Rattle.syn_ty.proofs.ty_laws.words.Types.{PreciseCapture, TypeInferOf, TypeMacroOf, TypeNeverOf, TypeOf, out-TypePathOf, held_bound, Readers, as_path, first_bound, trait_layer, unqualified_layer, TypeParamBound, TypeTree, paren_of}
 use Rattle.syn_ty.specs.declared.generics.TraitBoundOf.{TraitBoundOf}
 use Rattle.syn_ty.specs.declared.generics.TypeParamBoundOf.{TypeParamBoundOf, out-TypeParamBoundOf}
 use Rattle.syn_ty.specs.declared.generics.TypeParamBoundOf.TheVariants as b
@@ -10,30 +11,16 @@ use Rattle.syn_ty.specs.declared.ty.TypeArrayOf.{TypeArrayOf}
 use Rattle.syn_ty.specs.declared.ty.TypeFnPtrOf.{TypeFnPtrOf}
 use Rattle.syn_ty.specs.declared.ty.TypeGroupOf.{TypeGroupOf}
 use Rattle.syn_ty.specs.declared.ty.TypeImplTraitOf.{TypeImplTraitOf}
-use Rattle.syn_ty.specs.declared.ty.TypeInferOf.{TypeInferOf}
-use Rattle.syn_ty.specs.declared.ty.TypeMacroOf.{TypeMacroOf}
-use Rattle.syn_ty.specs.declared.ty.TypeNeverOf.{TypeNeverOf}
-use Rattle.syn_ty.specs.declared.ty.TypeOf.{TypeOf}
 use Rattle.syn_ty.specs.declared.ty.TypeOf.TheVariants as t
 use Rattle.syn_ty.specs.declared.ty.TypeParenOf.{TypeParenOf}
-use Rattle.syn_ty.specs.declared.ty.TypePathOf.{TypePathOf, out-TypePathOf}
+use Rattle.syn_ty.specs.declared.ty.TypePathOf.{TypePathOf}
 use Rattle.syn_ty.specs.declared.ty.TypePtrOf.{TypePtrOf}
 use Rattle.syn_ty.specs.declared.ty.TypeReferenceOf.{TypeReferenceOf}
 use Rattle.syn_ty.specs.declared.ty.TypeSliceOf.{TypeSliceOf}
 use Rattle.syn_ty.specs.declared.ty.TypeTraitObjectOf.{TypeTraitObjectOf}
 use Rattle.syn_ty.specs.declared.ty.TypeTupleOf.{TypeTupleOf}
-use Rattle.syn_ty.specs.generics.Params.{held_bound}
-use Rattle.syn_ty.specs.ty.Points.{Readers}
-use Rattle.syn_ty.specs.ty.Reading.{as_path, each_object_from, first_bound, first_bound_layer, held_in, held_layer, is_lone, lone_bound, paren_or_object, path_layer, trait_layer, unqualified_layer}
-use Rattle.syn_ty.specs.ty.Trees.{TypeParamBound, TypeTree}
-use Rattle.syn_ty.specs.ty.Types.{paren_of}
-use Rattle.token_core.specs.declared.lifetime.Lifetime.{Lifetime}
-use Rattle.token_core.specs.declared.token.Paren.{Paren}
-use Rattle.token_core.specs.Trees.{TokenStream}
+use Rattle.syn_ty.specs.ty.Reading.{each_object_from, first_bound_layer, held_in, held_layer, is_lone, lone_bound, paren_or_object, path_layer}
 use Rattle.token_core.specs.Lists.{put_last}
-use Rattle.token_core.specs.Loops.{Many}
-use Rattle.token_core.specs.Reads.{pure}
-use Rattle.token_core.specs.Stream.{Stream}
 use Rattle.token_core.specs.Tokens as token
 
 -- ---- bounds

@@ -1,22 +1,15 @@
 -- The reads of the types that hold no type meet the laws of their grammars.
 use Rattle.std.specs.Prelude.{IfOk}
 use Rattle.std.proofs.Common.{◌≡◌, false, List, [], Result}
+use Rattle.syn_ty.proofs.ty_laws.words.Tokens.{Reads, Visible, Refusal, Stream, done}
+use Rattle.syn_ty.proofs.ty_laws.words.Paths.{NormalValues}
+use Rattle.syn_ty.proofs.ty_laws.words.Types.{TypeInferOf, TypeMacroOf, TypeNeverOf, IsInfer, IsNever, IsMacroType}
 use Rattle.token_core.specs.Headline.{Lawful}
-use Rattle.token_core.specs.Reads.{Reads}
-use Rattle.token_core.specs.Rebuilt.{Visible}
-use Rattle.token_core.specs.Refusal.{Refusal}
-use Rattle.token_core.specs.Stream.{Stream}
-use Rattle.token_core.specs.Toks.{done}
-use Rattle.syn_path.specs.Values.{NormalValues}
 use Rattle.syn_forms.proofs.tokens_laws.Fronts.{plainly, taken_front, lawful_by}
-use Rattle.syn_ty.specs.declared.ty.TypeInferOf.{TypeInferOf}
-use Rattle.syn_ty.specs.declared.ty.TypeMacroOf.{TypeMacroOf}
-use Rattle.syn_ty.specs.declared.ty.TypeNeverOf.{TypeNeverOf}
 use Rattle.syn_ty.specs.ty.Grammars as grammars
 use Rattle.syn_ty.specs.ty.Normal as normal
 use Rattle.syn_ty.specs.ty.Printing as printing
 use Rattle.syn_ty.specs.ty.Reading as reading
-use Rattle.syn_ty.specs.ty.Spelling.{IsInfer, IsNever, IsMacroType}
 use Rattle.syn_ty.proofs.ty_laws.complete.Leaves as complete_parts
 use Rattle.syn_ty.proofs.ty_laws.reprint.Leaves as reprint_parts
 use Rattle.syn_ty.proofs.ty_laws.sound.Leaves as sound_parts

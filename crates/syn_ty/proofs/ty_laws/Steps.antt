@@ -1,33 +1,14 @@
 -- Types by what begins them: a read that ends in another one is that one.
 use Rattle.std.proofs.Common.{◌≡◌, ℕ, Bool, true, false, List, [], Option, Some, None, Result, Ok, Err, refl, sym, ap, subst, ◌∙◌}
-use Rattle.syn_forms.specs.declared.places.BoundPlace.TheVariants.{Object}
-use Rattle.syn_forms.specs.declared.places.TypePlace.{TypePlace}
-use Rattle.syn_forms.specs.declared.places.TypePlace.TheVariants.{Plus}
+use Rattle.syn_ty.proofs.ty_laws.words.Tokens.{Span, GroupToken, sees_invisible, sees_lifetime, Item, Many, Follows, Outcome, Reader, Reads, and_then, here, is_done, pure, sees_group, Refusal, Stream}
+use Rattle.syn_ty.proofs.ty_laws.words.Paths.{ReadValues, AsWritten}
+use Rattle.syn_ty.proofs.ty_laws.words.Forms.{Object, TypePlace, Plus, ahead, allows_plus, position}
+use Rattle.syn_ty.proofs.ty_laws.words.Types.{binder, maybe_qualified, bound, reads_below, Readers, a_bound, a_type, as_path, begins_named, sees_bindable, sees_builtin, sees_fn_ptr, sees_unsafe_binder, type_step, BoundLifetimes, Path, QSelf, TypeParamBound, TypeTraitObject, TypeTree, impl_trait_with, trait_object_with}
 use Rattle.syn_forms.specs.groups.Reading as content
-use Rattle.syn_forms.specs.nested.Below.{ahead}
-use Rattle.syn_forms.specs.places.Reading.{allows_plus}
-use Rattle.syn_forms.specs.verbatim.Reading.{position}
-use Rattle.syn_path.specs.Values.{ReadValues}
-use Rattle.syn_path.specs.declared.path.PathStyle.TheVariants.{AsWritten}
-use Rattle.syn_ty.specs.generics.Reading.{binder}
-use Rattle.syn_ty.specs.path.Reading.{maybe_qualified}
 use Rattle.syn_ty.specs.ty.Knot as knot
-use Rattle.syn_ty.specs.ty.Knot.{bound, reads_below}
-use Rattle.syn_ty.specs.ty.Points.{Readers, a_bound, a_type}
-use Rattle.syn_ty.specs.ty.Reading.{after_group, as_path, begins_named, bound_type, builtin_type, by_last_tokens, by_token, dyn_of, dyn_type, fn_ptr_after, group_type, group_with_arguments, group_with_segments, group_without_segments, impl_bounds, impl_trait, named_type, object_bounds, optional_dyn, optional_star, paren_content, paren_type, path_or_object, sees_bindable, sees_builtin, sees_fn_ptr, sees_further_arguments, sees_further_segment, sees_unsafe_binder, slice_or_array, trait_object, type_step, unbound_type, unsafe_binder}
+use Rattle.syn_ty.specs.ty.Reading.{after_group, bound_type, builtin_type, by_last_tokens, by_token, dyn_of, dyn_type, fn_ptr_after, group_type, group_with_arguments, group_with_segments, group_without_segments, impl_bounds, impl_trait, named_type, object_bounds, optional_dyn, optional_star, paren_content, paren_type, path_or_object, sees_further_arguments, sees_further_segment, slice_or_array, trait_object, unbound_type, unsafe_binder}
 use Rattle.syn_ty.specs.declared.ty.TypeOf.TheVariants.{FnPtr}
-use Rattle.syn_ty.specs.ty.Trees.{BoundLifetimes, Path, QSelf, TypeParamBound, TypeTraitObject, TypeTree}
-use Rattle.syn_ty.specs.ty.Types.{impl_trait_with, trait_object_with}
-use Rattle.token_core.specs.declared.span.Span.{Span}
-use Rattle.token_core.specs.declared.token.GroupToken.{GroupToken}
 use Rattle.token_core.specs.declared.tree.Delimiter.TheVariants as d
-use Rattle.token_core.specs.Groups.{sees_invisible}
-use Rattle.token_core.specs.Lifetimes.{sees_lifetime}
-use Rattle.token_core.specs.Positions.{Item}
-use Rattle.token_core.specs.Loops.{Many}
-use Rattle.token_core.specs.Reads.{Follows, Outcome, Reader, Reads, and_then, here, is_done, pure, sees_group}
-use Rattle.token_core.specs.Refusal.{Refusal}
-use Rattle.token_core.specs.Stream.{Stream}
 use Rattle.token_core.specs.Tokens as token
 use Rattle.token_core.proofs.Steps.{chosen, link}
 

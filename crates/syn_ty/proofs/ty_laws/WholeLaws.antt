@@ -1,18 +1,14 @@
 -- Each grammar of this layer meets its laws, where those of attributes and expressions are given: its read is sound and complete, and what it spells plainly is reprinted.
-use Rattle.std.proofs.Common.{◌≡◌, Bool, true, false, List, Option}
-use Rattle.token_core.specs.declared.span.Span.{Span}
+use Rattle.std.proofs.Common.{◌≡◌, true, false, List, Option}
+use Rattle.syn_ty.proofs.ty_laws.words.Tokens.{Span, Print, Reader, Scope, Toks}
+use Rattle.syn_ty.proofs.ty_laws.words.Paths.{AttributeLaws}
+use Rattle.syn_ty.proofs.ty_laws.words.Forms.{TypePlace}
+use Rattle.syn_ty.proofs.ty_laws.words.Types.{Manner, loosely, clearly}
 use Rattle.token_core.specs.Headline.{Lawful}
-use Rattle.token_core.specs.Prints.{Print}
-use Rattle.token_core.specs.Reads.{Reader}
-use Rattle.token_core.specs.Stream.{Scope}
 use Rattle.token_core.specs.Tokens as token
-use Rattle.token_core.specs.Toks.{Toks}
 use Rattle.token_core.proofs.Steps.{Reads_to}
-use Rattle.syn_path.specs.Lengths.{AttributeLaws}
-use Rattle.syn_path.specs.Values.{NormalValues, ReadValues, SpelledValues, Values}
+use Rattle.syn_path.specs.Traits.{Attributes, Expressions}
 use Rattle.syn_path.proofs.Words.{AgainFront}
-use Rattle.syn_forms.specs.declared.places.TypePlace.{TypePlace}
-use Rattle.syn_ty.specs.ty.Parts.{Manner, loosely, clearly}
 use Rattle.syn_ty.specs.ty.Promises as promises
 use Rattle.syn_ty.specs.ty.Promises.{promise}
 use Rattle.syn_ty.specs.ty.Spelt as by
@@ -34,101 +30,102 @@ lawful Is sound complete reprint = record {
   same = λ a l i q. (reprint a q.0 q.2).same;
 }
 
-module _ {A E : Type 0} {attrs : Reader (List A)} {values : ReadValues E} {shown : Bool → List A → Toks → Toks → Type 0} {spelt : SpelledValues E} {na : List A → List A} {ne : NormalValues E} {pa : List A → Print} {pe : Values E}
-    (g : Given attrs values shown spelt) (m : GivenMeets attrs values shown spelt) (a : GivenAgain na ne pa pe shown spelt) where
+module _ {A E : Type 0} (attrs : Attributes A) (exprs : Expressions E) (g : Given attrs.reads exprs.reads attrs.spells exprs.spells) (m : GivenMeets attrs.reads exprs.reads attrs.spells exprs.spells)
+    (a : GivenAgain attrs.normal exprs.normal attrs.shown exprs.values attrs.spells exprs.spells) where
   -- ---- paths
 
-  pub path_lawful : Lawful (promises.path attrs values shown spelt na ne pa pe)
-  path_lawful = lawful (by.SpellsPath shown spelt) (told.path_sound g) (met.path_complete m) (again.path_again a)
+  pub path_lawful : Lawful (promises.path attrs exprs)
+  path_lawful = lawful (by.SpellsPath attrs.spells exprs.spells) (told.path_sound g) (met.path_complete m) (again.path_again a)
 
-  pub segment_lawful : Lawful (promises.segment attrs values shown spelt na ne pa pe)
-  segment_lawful = lawful (by.SpellsSegment shown spelt) (told.segment_sound g) (met.segment_complete m) (again.segment_again a)
+  pub segment_lawful : Lawful (promises.segment attrs exprs)
+  segment_lawful = lawful (by.SpellsSegment attrs.spells exprs.spells) (told.segment_sound g) (met.segment_complete m) (again.segment_again a)
 
-  pub argument_lawful : Lawful (promises.argument attrs values shown spelt na ne pa pe)
-  argument_lawful = lawful (by.SpellsArgument shown spelt) (told.argument_sound g) (met.argument_complete m) (again.argument_again a)
+  pub argument_lawful : Lawful (promises.argument attrs exprs)
+  argument_lawful = lawful (by.SpellsArgument attrs.spells exprs.spells) (told.argument_sound g) (met.argument_complete m) (again.argument_again a)
 
-  pub angle_lawful : Lawful (promises.angle attrs values shown spelt na ne pa pe)
-  angle_lawful = lawful (by.SpellsAngle shown spelt) (told.angle_sound g) (met.angle_complete m) (again.angle_whole a)
+  pub angle_lawful : Lawful (promises.angle attrs exprs)
+  angle_lawful = lawful (by.SpellsAngle attrs.spells exprs.spells) (told.angle_sound g) (met.angle_complete m) (again.angle_whole a)
 
-  pub turbofish_lawful : Lawful (promises.turbofish attrs values shown spelt na ne pa pe)
-  turbofish_lawful = lawful (by.SpellsTurbofish shown spelt) (told.turbofish_sound g) (met.turbofish_complete m) (again.turbofish_again a)
+  pub turbofish_lawful : Lawful (promises.turbofish attrs exprs)
+  turbofish_lawful = lawful (by.SpellsTurbofish attrs.spells exprs.spells) (told.turbofish_sound g) (met.turbofish_complete m) (again.turbofish_again a)
 
-  pub parenthesized_lawful : Lawful (promises.parenthesized attrs values shown spelt na ne pa pe)
-  parenthesized_lawful = lawful (by.SpellsParens shown spelt) (told.parenthesized_sound g) (met.parenthesized_complete m) (again.parenthesized_again a)
+  pub parenthesized_lawful : Lawful (promises.parenthesized attrs exprs)
+  parenthesized_lawful = lawful (by.SpellsParens attrs.spells exprs.spells) (told.parenthesized_sound g) (met.parenthesized_complete m) (again.parenthesized_again a)
 
   -- ---- types, with plus or without
 
-  pub ty_lawful : (place : TypePlace) → Lawful (promises.ty attrs values shown spelt na ne pa pe place)
-  ty_lawful place = lawful (by.SpellsType shown spelt place) (told.ty_sound g place) (met.ty_complete m place) (again.ty_again a place)
+  pub ty_lawful : (place : TypePlace) → Lawful (promises.ty attrs exprs place)
+  ty_lawful place = lawful (by.SpellsType attrs.spells exprs.spells place) (told.ty_sound g place) (met.ty_complete m place) (again.ty_again a place)
 
-  pub return_type_lawful : (place : TypePlace) → Lawful (promises.return_type attrs values shown spelt na ne pa pe place)
-  return_type_lawful place = lawful (by.SpellsReturn shown spelt place) (told.return_type_sound g place) (met.return_type_complete m place) (again.return_type_again a place)
+  pub return_type_lawful : (place : TypePlace) → Lawful (promises.return_type attrs exprs place)
+  return_type_lawful place = lawful (by.SpellsReturn attrs.spells exprs.spells place) (told.return_type_sound g place) (met.return_type_complete m place) (again.return_type_again a place)
 
-  pub trait_object_lawful : (place : TypePlace) → Lawful (promises.trait_object attrs values shown spelt na ne pa pe place)
-  trait_object_lawful place = lawful (by.SpellsObject shown spelt place) (told.trait_object_sound g place) (met.trait_object_complete m place) (again.trait_object_again a place)
+  pub trait_object_lawful : (place : TypePlace) → Lawful (promises.trait_object attrs exprs place)
+  trait_object_lawful place = lawful (by.SpellsObject attrs.spells exprs.spells place) (told.trait_object_sound g place) (met.trait_object_complete m place) (again.trait_object_again a place)
 
-  pub impl_trait_lawful : (place : TypePlace) → Lawful (promises.impl_trait attrs values shown spelt na ne pa pe place)
-  impl_trait_lawful place = lawful (by.SpellsImpl shown spelt place) (told.impl_trait_sound g place) (met.impl_trait_complete m place) (again.impl_trait_again a place)
+  pub impl_trait_lawful : (place : TypePlace) → Lawful (promises.impl_trait attrs exprs place)
+  impl_trait_lawful place = lawful (by.SpellsImpl attrs.spells exprs.spells place) (told.impl_trait_sound g place) (met.impl_trait_complete m place) (again.impl_trait_again a place)
 
-  pub array_lawful : Lawful (promises.array attrs values shown spelt na ne pa pe)
-  array_lawful = lawful (by.SpellsArray shown spelt) (told.array_sound g) (met.array_complete m) (again.array_again a)
+  pub array_lawful : Lawful (promises.array attrs exprs)
+  array_lawful = lawful (by.SpellsArray attrs.spells exprs.spells) (told.array_sound g) (met.array_complete m) (again.array_again a)
 
-  pub fn_ptr_lawful : Lawful (promises.fn_ptr attrs values shown spelt na ne pa pe)
-  fn_ptr_lawful = lawful (by.SpellsFnPtr shown spelt) (told.fn_ptr_sound g) (met.fn_ptr_complete m) (again.fn_ptr_again a)
+  pub fn_ptr_lawful : Lawful (promises.fn_ptr attrs exprs)
+  fn_ptr_lawful = lawful (by.SpellsFnPtr attrs.spells exprs.spells) (told.fn_ptr_sound g) (met.fn_ptr_complete m) (again.fn_ptr_again a)
 
-  pub group_lawful : Lawful (promises.group attrs values shown spelt na ne pa pe)
-  group_lawful = lawful (by.SpellsGroup shown spelt) (told.group_sound g) (met.group_complete m) (again.group_again a)
+  pub group_lawful : Lawful (promises.group attrs exprs)
+  group_lawful = lawful (by.SpellsGroup attrs.spells exprs.spells) (told.group_sound g) (met.group_complete m) (again.group_again a)
 
-  pub paren_lawful : Lawful (promises.paren attrs values shown spelt na ne pa pe)
-  paren_lawful = lawful (by.SpellsParen shown spelt) (told.paren_sound g) (met.paren_complete m) (again.paren_again a)
+  pub paren_lawful : Lawful (promises.paren attrs exprs)
+  paren_lawful = lawful (by.SpellsParen attrs.spells exprs.spells) (told.paren_sound g) (met.paren_complete m) (again.paren_again a)
 
-  pub path_type_lawful : Lawful (promises.path_type attrs values shown spelt na ne pa pe)
-  path_type_lawful = lawful (by.SpellsTypePath shown spelt) (told.path_type_sound g) (met.path_type_complete m) (again.path_type_again a)
+  pub path_type_lawful : Lawful (promises.path_type attrs exprs)
+  path_type_lawful = lawful (by.SpellsTypePath attrs.spells exprs.spells) (told.path_type_sound g) (met.path_type_complete m) (again.path_type_again a)
 
-  pub ptr_lawful : Lawful (promises.ptr attrs values shown spelt na ne pa pe)
-  ptr_lawful = lawful (by.SpellsPtr shown spelt) (told.ptr_sound g) (met.ptr_complete m) (again.ptr_again a)
+  pub ptr_lawful : Lawful (promises.ptr attrs exprs)
+  ptr_lawful = lawful (by.SpellsPtr attrs.spells exprs.spells) (told.ptr_sound g) (met.ptr_complete m) (again.ptr_again a)
 
-  pub reference_lawful : Lawful (promises.reference attrs values shown spelt na ne pa pe)
-  reference_lawful = lawful (by.SpellsReference shown spelt) (told.reference_sound g) (met.reference_complete m) (again.reference_again a)
+  pub reference_lawful : Lawful (promises.reference attrs exprs)
+  reference_lawful = lawful (by.SpellsReference attrs.spells exprs.spells) (told.reference_sound g) (met.reference_complete m) (again.reference_again a)
 
-  pub slice_lawful : Lawful (promises.slice attrs values shown spelt na ne pa pe)
-  slice_lawful = lawful (by.SpellsSlice shown spelt) (told.slice_sound g) (met.slice_complete m) (again.slice_again a)
+  pub slice_lawful : Lawful (promises.slice attrs exprs)
+  slice_lawful = lawful (by.SpellsSlice attrs.spells exprs.spells) (told.slice_sound g) (met.slice_complete m) (again.slice_again a)
 
-  pub tuple_lawful : Lawful (promises.tuple attrs values shown spelt na ne pa pe)
-  tuple_lawful = lawful (by.SpellsTuple shown spelt) (told.tuple_sound g) (met.tuple_complete m) (again.tuple_again a)
+  pub tuple_lawful : Lawful (promises.tuple attrs exprs)
+  tuple_lawful = lawful (by.SpellsTuple attrs.spells exprs.spells) (told.tuple_sound g) (met.tuple_complete m) (again.tuple_again a)
 
-  pub named_arg_lawful : Lawful (promises.named_arg attrs values shown spelt na ne pa pe)
-  named_arg_lawful = lawful (by.SpellsNamedArg shown spelt) (told.named_arg_sound g) (met.named_arg_complete m) (again.named_arg_again a)
+  pub named_arg_lawful : Lawful (promises.named_arg attrs exprs)
+  named_arg_lawful = lawful (by.SpellsNamedArg attrs.spells exprs.spells) (told.named_arg_sound g) (met.named_arg_complete m) (again.named_arg_again a)
 
   -- ---- generics
 
-  pub param_lawful : Lawful (promises.param attrs values shown spelt na ne pa pe)
-  param_lawful = lawful (by.SpellsParam shown spelt) (told.param_sound g) (met.param_complete m) (again.param_again a)
+  pub param_lawful : Lawful (promises.param attrs exprs)
+  param_lawful = lawful (by.SpellsParam attrs.spells exprs.spells) (told.param_sound g) (met.param_complete m) (again.param_again a)
 
-  pub type_param_lawful : Lawful (promises.type_param attrs values shown spelt na ne pa pe)
-  type_param_lawful = lawful (by.SpellsTypeParam shown spelt) (told.type_param_sound g) (met.type_param_complete m) (again.type_param_again a)
+  pub type_param_lawful : Lawful (promises.type_param attrs exprs)
+  type_param_lawful = lawful (by.SpellsTypeParam attrs.spells exprs.spells) (told.type_param_sound g) (met.type_param_complete m) (again.type_param_again a)
 
-  pub const_param_lawful : Lawful (promises.const_param attrs values shown spelt na ne pa pe)
-  const_param_lawful = lawful (by.SpellsConstParam shown spelt) (told.const_param_sound g) (met.const_param_complete m) (again.const_param_again a)
+  pub const_param_lawful : Lawful (promises.const_param attrs exprs)
+  const_param_lawful = lawful (by.SpellsConstParam attrs.spells exprs.spells) (told.const_param_sound g) (met.const_param_complete m) (again.const_param_again a)
 
-  pub binder_lawful : Lawful (promises.binder attrs values shown spelt na ne pa pe)
-  binder_lawful = lawful (by.SpellsBinder shown spelt) (told.binder_sound g) (met.binder_complete m) (again.binder_again a)
+  pub binder_lawful : Lawful (promises.binder attrs exprs)
+  binder_lawful = lawful (by.SpellsBinder attrs.spells exprs.spells) (told.binder_sound g) (met.binder_complete m) (again.binder_again a)
 
-  pub optional_binder_lawful : Lawful (promises.optional_binder attrs values shown spelt na ne pa pe)
-  optional_binder_lawful = lawful (by.SpellsOptionalBinder shown spelt) (told.optional_binder_sound g) (met.optional_binder_complete m) (again.optional_binder_again a)
+  pub optional_binder_lawful : Lawful (promises.optional_binder attrs exprs)
+  optional_binder_lawful = lawful (by.SpellsOptionalBinder attrs.spells exprs.spells) (told.optional_binder_sound g) (met.optional_binder_complete m) (again.optional_binder_again a)
 
-  pub bound_lawful : Lawful (promises.bound attrs values shown spelt na ne pa pe)
-  bound_lawful = lawful (by.SpellsBound shown spelt) (told.bound_sound g) (met.bound_complete m) (again.bound_again a)
+  pub bound_lawful : Lawful (promises.bound attrs exprs)
+  bound_lawful = lawful (by.SpellsBound attrs.spells exprs.spells) (told.bound_sound g) (met.bound_complete m) (again.bound_again a)
 
-  pub trait_bound_lawful : Lawful (promises.trait_bound attrs values shown spelt na ne pa pe)
-  trait_bound_lawful = lawful (by.SpellsTraitBound shown spelt) (told.trait_bound_sound g) (met.trait_bound_complete m) (again.trait_bound_again a)
+  pub trait_bound_lawful : Lawful (promises.trait_bound attrs exprs)
+  trait_bound_lawful = lawful (by.SpellsTraitBound attrs.spells exprs.spells) (told.trait_bound_sound g) (met.trait_bound_complete m) (again.trait_bound_again a)
 
 -- ---- a lifetime parameter
 
-module _ {A : Type 0} (attrs : Reader (List A)) (shown : Bool → List A → Toks → Toks → Type 0) (na : List A → List A) (pa : List A → Print) (laws : AttributeLaws attrs shown)
-    (attrs_met : (x : List A) (l k : Toks) (f : Option Span) (e : Span) (sc : Scope) → shown true x l k → token.sees_pound k ≡ false → Reads_to attrs x l k f e sc) (attrs_again : (x : List A) (l r : Toks) → shown false x l r → AgainFront (shown true) na pa x l r) where
-  pub lifetime_param_lawful : Lawful (promises.lifetime_param attrs shown na pa)
-  lifetime_param_lawful = lawful (by.SpellsLifetimeParam shown) (told.lifetime_param_sound laws) (met.lifetime_param_complete attrs shown attrs_met) (again.lifetime_param_again na pa shown attrs_again)
+module _ {A : Type 0} (attrs : Attributes A) (laws : AttributeLaws attrs.reads attrs.spells)
+    (attrs_met : (x : List A) (l k : Toks) (f : Option Span) (e : Span) (sc : Scope) → attrs.spells true x l k → token.sees_pound k ≡ false → Reads_to attrs.reads x l k f e sc)
+    (attrs_again : (x : List A) (l r : Toks) → attrs.spells false x l r → AgainFront (attrs.spells true) attrs.normal attrs.shown x l r) where
+  pub lifetime_param_lawful : Lawful (promises.lifetime_param attrs)
+  lifetime_param_lawful = lawful (by.SpellsLifetimeParam attrs.spells) (told.lifetime_param_sound laws) (met.lifetime_param_complete attrs.reads attrs.spells attrs_met) (again.lifetime_param_again attrs.normal attrs.shown attrs.spells attrs_again)
 
 -- ---- what holds no type
 

@@ -1,5 +1,5 @@
 -- The promise of each reader of this layer: which lists its trees spell, their normal form, their print, which have clear verbatim parts, and the read.
-use Rattle.std.specs.Prelude.{Bool, true, false, ◌||◌, List, Option, option_map}
+use Rattle.std.specs.Prelude.{Bool, true, false, ◌||◌, Option, option_map}
 use Rattle.token_core.specs.Fronted.{Fronting}
 use Rattle.token_core.specs.Headline.{Grammar}
 use Rattle.token_core.specs.Prints as p
@@ -9,7 +9,7 @@ use Rattle.token_core.specs.Rebuilt.{Visible}
 use Rattle.token_core.specs.Tokens as token
 use Rattle.token_core.specs.Toks.{Toks}
 use Rattle.syn_path.specs.declared.path.PathStyle.TheVariants.{AsWritten}
-use Rattle.syn_path.specs.Values.{NormalValues, ReadValues, SpelledValues, Values}
+use Rattle.syn_path.specs.Traits.{Attributes, Expressions}
 use Rattle.syn_forms.specs.declared.places.BoundPlace.TheVariants.{Opaque}
 use Rattle.syn_forms.specs.declared.places.ParamPlace.TheVariants.{Binder}
 use Rattle.syn_forms.specs.declared.places.TypePlace.{TypePlace}
@@ -50,107 +50,106 @@ fronting G Is follows = record { grammar = G; begins = λ clear x l k. Is (manne
 abbrev pub follows_type : Toks → Bool
 follows_type k = is_done k || token.sees_comma k
 
--- ---- over what attributes and expressions read, spell, have as their normal form and print
+-- ---- over attributes and expressions
 
-module _ {A E : Type 0} (read_attrs : Reader (List A)) (reads : ReadValues E) (spelt_attrs : Bool → List A → Toks → Toks → Type 0) (spells : SpelledValues E)
-    (normal_attrs : List A → List A) (normals : NormalValues E) (shown_attrs : List A → Print) (prints : Values E) where
+module _ {A E : Type 0} (attrs : Attributes A) (exprs : Expressions E) where
   -- ---- paths
 
   abbrev pub path : Grammar (Path A E)
-  path = promise (spelt.SpellsPath spelt_attrs spells) (normal.path normal_attrs normals) (shown_paths.path shown_attrs prints AsWritten) (knot.path read_attrs reads AsWritten)
+  path = promise (spelt.SpellsPath attrs.spells exprs.spells) (normal.path attrs.normal exprs.normal) (shown_paths.path attrs.shown exprs.values AsWritten) (knot.path attrs.reads exprs.reads AsWritten)
 
   abbrev pub segment : Grammar (PathSegment A E)
-  segment = promise (spelt.SpellsSegment spelt_attrs spells) (normal.segment normal_attrs normals) (shown_paths.segment shown_attrs prints AsWritten) (knot.segment read_attrs reads)
+  segment = promise (spelt.SpellsSegment attrs.spells exprs.spells) (normal.segment attrs.normal exprs.normal) (shown_paths.segment attrs.shown exprs.values AsWritten) (knot.segment attrs.reads exprs.reads)
 
   abbrev pub argument : Grammar (GenericArgument A E)
-  argument = promise (spelt.SpellsArgument spelt_attrs spells) (normal.argument normal_attrs normals) (shown.argument shown_attrs prints) (knot.argument read_attrs reads)
+  argument = promise (spelt.SpellsArgument attrs.spells exprs.spells) (normal.argument attrs.normal exprs.normal) (shown.argument attrs.shown exprs.values) (knot.argument attrs.reads exprs.reads)
 
   abbrev pub angle : Grammar (AngleBracketed A E)
-  angle = promise (spelt.SpellsAngle spelt_attrs spells) (normal.angle normal_attrs normals) (shown.angle shown_attrs prints AsWritten) (knot.angle_bracketed read_attrs reads)
+  angle = promise (spelt.SpellsAngle attrs.spells exprs.spells) (normal.angle attrs.normal exprs.normal) (shown.angle attrs.shown exprs.values AsWritten) (knot.angle_bracketed attrs.reads exprs.reads)
 
   abbrev pub turbofish : Grammar (AngleBracketed A E)
-  turbofish = promise (spelt.SpellsTurbofish spelt_attrs spells) (normal.angle normal_attrs normals) (shown.angle shown_attrs prints AsWritten) (knot.turbofish read_attrs reads)
+  turbofish = promise (spelt.SpellsTurbofish attrs.spells exprs.spells) (normal.angle attrs.normal exprs.normal) (shown.angle attrs.shown exprs.values AsWritten) (knot.turbofish attrs.reads exprs.reads)
 
   abbrev pub parenthesized : Grammar (Parenthesized A E)
-  parenthesized = promise (spelt.SpellsParens spelt_attrs spells) (normal.parenthesized normal_attrs normals) (shown.parenthesized shown_attrs prints) (knot.parenthesized read_attrs reads)
+  parenthesized = promise (spelt.SpellsParens attrs.spells exprs.spells) (normal.parenthesized attrs.normal exprs.normal) (shown.parenthesized attrs.shown exprs.values) (knot.parenthesized attrs.reads exprs.reads)
 
   -- ---- types, with plus or without
 
   abbrev pub ty : TypePlace → Grammar (TypeTree A E)
-  ty place = promise (spelt.SpellsType spelt_attrs spells place) (normal.ty normal_attrs normals) (shown.ty shown_attrs prints) (knot.ty read_attrs reads place)
+  ty place = promise (spelt.SpellsType attrs.spells exprs.spells place) (normal.ty attrs.normal exprs.normal) (shown.ty attrs.shown exprs.values) (knot.ty attrs.reads exprs.reads place)
 
   -- with plus, on the front of a list
   abbrev pub ty_front : Fronting (TypeTree A E)
-  ty_front = fronting (ty Plus) (spelt.BeginsType spelt_attrs spells Plus) follows_type
+  ty_front = fronting (ty Plus) (spelt.BeginsType attrs.spells exprs.spells Plus) follows_type
 
   abbrev pub return_type : TypePlace → Grammar (ReturnType A E)
-  return_type place = promise (spelt.SpellsReturn spelt_attrs spells place) (normal.return_type normal_attrs normals) (shown.return_type shown_attrs prints) (knot.return_type read_attrs reads place)
+  return_type place = promise (spelt.SpellsReturn attrs.spells exprs.spells place) (normal.return_type attrs.normal exprs.normal) (shown.return_type attrs.shown exprs.values) (knot.return_type attrs.reads exprs.reads place)
 
   abbrev pub trait_object : TypePlace → Grammar (TypeTraitObject A E)
-  trait_object place = promise (spelt.SpellsObject spelt_attrs spells place) (normal.trait_object normal_attrs normals) (shown.trait_object shown_attrs prints) (knot.trait_object read_attrs reads (allows_plus place))
+  trait_object place = promise (spelt.SpellsObject attrs.spells exprs.spells place) (normal.trait_object attrs.normal exprs.normal) (shown.trait_object attrs.shown exprs.values) (knot.trait_object attrs.reads exprs.reads (allows_plus place))
 
   abbrev pub impl_trait : TypePlace → Grammar (TypeImplTrait A E)
-  impl_trait place = promise (spelt.SpellsImpl spelt_attrs spells place) (normal.impl_trait normal_attrs normals) (shown.impl_trait shown_attrs prints) (knot.impl_trait read_attrs reads (allows_plus place))
+  impl_trait place = promise (spelt.SpellsImpl attrs.spells exprs.spells place) (normal.impl_trait attrs.normal exprs.normal) (shown.impl_trait attrs.shown exprs.values) (knot.impl_trait attrs.reads exprs.reads (allows_plus place))
 
   abbrev pub array : Grammar (TypeArray A E)
-  array = promise (spelt.SpellsArray spelt_attrs spells) (normal.array normal_attrs normals) (shown.array shown_attrs prints) (knot.array read_attrs reads)
+  array = promise (spelt.SpellsArray attrs.spells exprs.spells) (normal.array attrs.normal exprs.normal) (shown.array attrs.shown exprs.values) (knot.array attrs.reads exprs.reads)
 
   abbrev pub fn_ptr : Grammar (TypeFnPtr A E)
-  fn_ptr = promise (spelt.SpellsFnPtr spelt_attrs spells) (normal.fn_ptr normal_attrs normals) (shown.fn_ptr shown_attrs prints) (knot.fn_ptr read_attrs reads)
+  fn_ptr = promise (spelt.SpellsFnPtr attrs.spells exprs.spells) (normal.fn_ptr attrs.normal exprs.normal) (shown.fn_ptr attrs.shown exprs.values) (knot.fn_ptr attrs.reads exprs.reads)
 
   abbrev pub group : Grammar (TypeGroup A E)
-  group = promise (spelt.SpellsGroup spelt_attrs spells) (normal.group normal_attrs normals) (shown.group shown_attrs prints) (knot.group read_attrs reads)
+  group = promise (spelt.SpellsGroup attrs.spells exprs.spells) (normal.group attrs.normal exprs.normal) (shown.group attrs.shown exprs.values) (knot.group attrs.reads exprs.reads)
 
   abbrev pub paren : Grammar (TypeParen A E)
-  paren = promise (spelt.SpellsParen spelt_attrs spells) (normal.paren normal_attrs normals) (shown.paren shown_attrs prints) (knot.paren read_attrs reads)
+  paren = promise (spelt.SpellsParen attrs.spells exprs.spells) (normal.paren attrs.normal exprs.normal) (shown.paren attrs.shown exprs.values) (knot.paren attrs.reads exprs.reads)
 
   abbrev pub path_type : Grammar (TypePath A E)
-  path_type = promise (spelt.SpellsTypePath spelt_attrs spells) (normal.path_type normal_attrs normals) (shown.path_type shown_attrs prints) (knot.path_type read_attrs reads)
+  path_type = promise (spelt.SpellsTypePath attrs.spells exprs.spells) (normal.path_type attrs.normal exprs.normal) (shown.path_type attrs.shown exprs.values) (knot.path_type attrs.reads exprs.reads)
 
   abbrev pub ptr : Grammar (TypePtr A E)
-  ptr = promise (spelt.SpellsPtr spelt_attrs spells) (normal.ptr normal_attrs normals) (shown.ptr shown_attrs prints) (knot.ptr read_attrs reads)
+  ptr = promise (spelt.SpellsPtr attrs.spells exprs.spells) (normal.ptr attrs.normal exprs.normal) (shown.ptr attrs.shown exprs.values) (knot.ptr attrs.reads exprs.reads)
 
   abbrev pub reference : Grammar (TypeReference A E)
-  reference = promise (spelt.SpellsReference spelt_attrs spells) (normal.reference normal_attrs normals) (shown.reference shown_attrs prints) (knot.reference read_attrs reads)
+  reference = promise (spelt.SpellsReference attrs.spells exprs.spells) (normal.reference attrs.normal exprs.normal) (shown.reference attrs.shown exprs.values) (knot.reference attrs.reads exprs.reads)
 
   abbrev pub slice : Grammar (TypeSlice A E)
-  slice = promise (spelt.SpellsSlice spelt_attrs spells) (normal.slice normal_attrs normals) (shown.slice shown_attrs prints) (knot.slice read_attrs reads)
+  slice = promise (spelt.SpellsSlice attrs.spells exprs.spells) (normal.slice attrs.normal exprs.normal) (shown.slice attrs.shown exprs.values) (knot.slice attrs.reads exprs.reads)
 
   abbrev pub tuple : Grammar (TypeTuple A E)
-  tuple = promise (spelt.SpellsTuple spelt_attrs spells) (normal.tuple normal_attrs normals) (shown.tuple shown_attrs prints) (knot.tuple read_attrs reads)
+  tuple = promise (spelt.SpellsTuple attrs.spells exprs.spells) (normal.tuple attrs.normal exprs.normal) (shown.tuple attrs.shown exprs.values) (knot.tuple attrs.reads exprs.reads)
 
   abbrev pub named_arg : Grammar (NamedArg A E)
-  named_arg = promise (spelt.SpellsNamedArg spelt_attrs spells) (normal.named_arg normal_attrs normals) (shown.named_arg shown_attrs prints) (knot.named_arg read_attrs reads)
+  named_arg = promise (spelt.SpellsNamedArg attrs.spells exprs.spells) (normal.named_arg attrs.normal exprs.normal) (shown.named_arg attrs.shown exprs.values) (knot.named_arg attrs.reads exprs.reads)
 
   -- ---- generics
 
   abbrev pub param : Grammar (GenericParam A E)
-  param = promise (spelt.SpellsParam spelt_attrs spells) (normal.param normal_attrs normals) (shown.param shown_attrs prints) (knot.param read_attrs reads Binder)
+  param = promise (spelt.SpellsParam attrs.spells exprs.spells) (normal.param attrs.normal exprs.normal) (shown.param attrs.shown exprs.values) (knot.param attrs.reads exprs.reads Binder)
 
   abbrev pub type_param : Grammar (TypeParam A E)
-  type_param = promise (spelt.SpellsTypeParam spelt_attrs spells) (normal.type_param normal_attrs normals) (shown.type_param shown_attrs prints) (knot.type_param read_attrs reads)
+  type_param = promise (spelt.SpellsTypeParam attrs.spells exprs.spells) (normal.type_param attrs.normal exprs.normal) (shown.type_param attrs.shown exprs.values) (knot.type_param attrs.reads exprs.reads)
 
   abbrev pub const_param : Grammar (ConstParam A E)
-  const_param = promise (spelt.SpellsConstParam spelt_attrs spells) (normal.const_param normal_attrs normals) (shown.const_param shown_attrs prints) (knot.const_param read_attrs reads)
+  const_param = promise (spelt.SpellsConstParam attrs.spells exprs.spells) (normal.const_param attrs.normal exprs.normal) (shown.const_param attrs.shown exprs.values) (knot.const_param attrs.reads exprs.reads)
 
   abbrev pub binder : Grammar (BoundLifetimes A E)
-  binder = promise (spelt.SpellsBinder spelt_attrs spells) (normal.bound_lifetimes normal_attrs normals) (shown.bound_lifetimes shown_attrs prints) (knot.binder read_attrs reads)
+  binder = promise (spelt.SpellsBinder attrs.spells exprs.spells) (normal.bound_lifetimes attrs.normal exprs.normal) (shown.bound_lifetimes attrs.shown exprs.values) (knot.binder attrs.reads exprs.reads)
 
   abbrev pub optional_binder : Grammar (Option (BoundLifetimes A E))
   optional_binder =
-      promise (spelt.SpellsOptionalBinder spelt_attrs spells) (option_map (normal.bound_lifetimes normal_attrs normals)) (p.optional (shown.bound_lifetimes shown_attrs prints)) (knot.optional_binder read_attrs reads)
+      promise (spelt.SpellsOptionalBinder attrs.spells exprs.spells) (option_map (normal.bound_lifetimes attrs.normal exprs.normal)) (p.optional (shown.bound_lifetimes attrs.shown exprs.values)) (knot.optional_binder attrs.reads exprs.reads)
 
   abbrev pub bound : Grammar (TypeParamBound A E)
-  bound = promise (spelt.SpellsBound spelt_attrs spells) (normal.bound normal_attrs normals) (shown.bound shown_attrs prints) (knot.bound read_attrs reads Opaque)
+  bound = promise (spelt.SpellsBound attrs.spells exprs.spells) (normal.bound attrs.normal exprs.normal) (shown.bound attrs.shown exprs.values) (knot.bound attrs.reads exprs.reads Opaque)
 
   abbrev pub trait_bound : Grammar (TraitBound A E)
-  trait_bound = promise (spelt.SpellsTraitBound spelt_attrs spells) (normal.trait_bound normal_attrs normals) (shown.trait_bound shown_attrs prints) (knot.trait_bound read_attrs reads)
+  trait_bound = promise (spelt.SpellsTraitBound attrs.spells exprs.spells) (normal.trait_bound attrs.normal exprs.normal) (shown.trait_bound attrs.shown exprs.values) (knot.trait_bound attrs.reads exprs.reads)
 
 -- ---- a lifetime parameter
 
-abbrev pub lifetime_param : {A : Type 0} → Reader (List A) → (Bool → List A → Toks → Toks → Type 0) → (List A → List A) → (List A → Print) → Grammar (LifetimeParamOf A)
-lifetime_param read_attrs spelt_attrs normal_attrs shown_attrs =
-    promise (spelt.SpellsLifetimeParam spelt_attrs) (λ x. lifetime_param_of (normal_attrs x.attrs) x.lifetime (normal_shapes.colon x.colon_token x.bounds.0) x.bounds) (shapes.lifetime_param_by shown_attrs) (parts.lifetime_param read_attrs)
+abbrev pub lifetime_param : {A : Type 0} → Attributes A → Grammar (LifetimeParamOf A)
+lifetime_param attrs =
+    promise (spelt.SpellsLifetimeParam attrs.spells) (λ x. lifetime_param_of (attrs.normal x.attrs) x.lifetime (normal_shapes.colon x.colon_token x.bounds.0) x.bounds) (shapes.lifetime_param_by attrs.shown) (parts.lifetime_param attrs.reads)
 
 -- ---- what holds no type
 

@@ -1165,7 +1165,7 @@ impl<A: Attributes, E: Value> Parse for BoundLifetimesOf<GenericParamOf<A, E>> {
 
     ghost refuses = { Fails (knot.binder A.reads E.reads) };
 
-    ghost promise = { Headline (promises.binder A.reads E.reads A.spells E.spells A.normal E.normal A.shown E.values) };
+    ghost promise = { Headline (promises.binder A.Attributes E.Value) };
 
     fn parse(
         alloc: Global,
@@ -1173,8 +1173,7 @@ impl<A: Attributes, E: Value> Parse for BoundLifetimesOf<GenericParamOf<A, E>> {
     ) -> Result<BoundLifetimesOf<GenericParamOf<A, E>>, Error>
         ensures reads { Reads (knot.binder A.reads E.reads input.old) result input.new }
         ensures within { Follows input.old input.new }
-        ensures promise { Heads (promises.binder A.reads E.reads A.spells E.spells A.normal E.normal A.shown E.values)
-            input.old result input.new }
+        ensures promise { Heads (promises.binder A.Attributes E.Value) input.old result input.new }
         ensures front { Takes (fronts.binder A.spells E.spells) input.old result input.new }
     {
         parse_binder(alloc, input)
@@ -1189,9 +1188,7 @@ impl<A: Attributes, E: Value> BoundLifetimesOf<GenericParamOf<A, E>> {
         input: &mut ParseStream<'_>,
     ) -> Result<Option<BoundLifetimesOf<GenericParamOf<A, E>>>, Error>
         ensures parses { Parses (knot.optional_binder A.reads E.reads) result input.old input.new }
-        ensures promise { Heads
-            (promises.optional_binder A.reads E.reads A.spells E.spells A.normal E.normal A.shown E.values)
-            input.old result input.new }
+        ensures promise { Heads (promises.optional_binder A.Attributes E.Value) input.old result input.new }
         ensures front { Takes (fronts.optional_binder A.spells E.spells) input.old result input.new }
     {
         parse_optional_binder(alloc, input)
@@ -1213,13 +1210,12 @@ impl<A: Attributes, E: Value> Parse for TypeParamBoundOf<A, E> {
 
     ghost refuses = { Fails (knot.bound A.reads E.reads bound_places.Opaque) };
 
-    ghost promise = { Headline (promises.bound A.reads E.reads A.spells E.spells A.normal E.normal A.shown E.values) };
+    ghost promise = { Headline (promises.bound A.Attributes E.Value) };
 
     fn parse(alloc: Global, input: &mut ParseStream<'_>) -> Result<TypeParamBoundOf<A, E>, Error>
         ensures reads { Reads (knot.bound A.reads E.reads bound_places.Opaque input.old) result input.new }
         ensures within { Follows input.old input.new }
-        ensures promise { Heads (promises.bound A.reads E.reads A.spells E.spells A.normal E.normal A.shown E.values)
-            input.old result input.new }
+        ensures promise { Heads (promises.bound A.Attributes E.Value) input.old result input.new }
         ensures front { Takes (fronts.bound A.spells E.spells) input.old result input.new }
     {
         parse_bound(alloc, input, BoundPlace::Opaque)
@@ -1239,15 +1235,12 @@ impl<A: Attributes, E: Value> Parse for TraitBoundOf<A, E> {
 
     ghost refuses = { Fails (knot.trait_bound A.reads E.reads) };
 
-    ghost promise = { Headline
-        (promises.trait_bound A.reads E.reads A.spells E.spells A.normal E.normal A.shown E.values) };
+    ghost promise = { Headline (promises.trait_bound A.Attributes E.Value) };
 
     fn parse(alloc: Global, input: &mut ParseStream<'_>) -> Result<TraitBoundOf<A, E>, Error>
         ensures reads { Reads (knot.trait_bound A.reads E.reads input.old) result input.new }
         ensures within { Follows input.old input.new }
-        ensures promise { Heads
-            (promises.trait_bound A.reads E.reads A.spells E.spells A.normal E.normal A.shown E.values)
-            input.old result input.new }
+        ensures promise { Heads (promises.trait_bound A.Attributes E.Value) input.old result input.new }
         ensures front { Takes (fronts.trait_bound A.spells E.spells) input.old result input.new }
     {
         parse_trait_bound(alloc, input)
@@ -1267,13 +1260,12 @@ impl<A: Attributes, E: Value> Parse for GenericParamOf<A, E> {
 
     ghost refuses = { Fails (knot.param A.reads E.reads param_places.Binder) };
 
-    ghost promise = { Headline (promises.param A.reads E.reads A.spells E.spells A.normal E.normal A.shown E.values) };
+    ghost promise = { Headline (promises.param A.Attributes E.Value) };
 
     fn parse(alloc: Global, input: &mut ParseStream<'_>) -> Result<GenericParamOf<A, E>, Error>
         ensures reads { Reads (knot.param A.reads E.reads param_places.Binder input.old) result input.new }
         ensures within { Follows input.old input.new }
-        ensures promise { Heads (promises.param A.reads E.reads A.spells E.spells A.normal E.normal A.shown E.values)
-            input.old result input.new }
+        ensures promise { Heads (promises.param A.Attributes E.Value) input.old result input.new }
         ensures front { Takes (fronts.param A.spells E.spells) input.old result input.new }
     {
         parse_param(alloc, input, ParamPlace::Binder)
@@ -1292,12 +1284,12 @@ impl<A: Attributes> Parse for LifetimeParamOf<A> {
 
     ghost refuses = { Fails (reading.lifetime_param A.reads) };
 
-    ghost promise = { Headline (promises.lifetime_param A.reads A.spells A.normal A.shown) };
+    ghost promise = { Headline (promises.lifetime_param A.Attributes) };
 
     fn parse(alloc: Global, input: &mut ParseStream<'_>) -> Result<LifetimeParamOf<A>, Error>
         ensures reads { Reads (reading.lifetime_param A.reads input.old) result input.new }
         ensures within { Follows input.old input.new }
-        ensures promise { Heads (promises.lifetime_param A.reads A.spells A.normal A.shown) input.old result input.new }
+        ensures promise { Heads (promises.lifetime_param A.Attributes) input.old result input.new }
         ensures front { Takes (spelt.IsLifetimeAlone A.spells loosely) input.old result input.new }
     {
         lifetime_param(alloc, input)
@@ -1316,15 +1308,12 @@ impl<A: Attributes, E: Value> Parse for TypeParamOf<A, E> {
 
     ghost refuses = { Fails (knot.type_param A.reads E.reads) };
 
-    ghost promise = { Headline
-        (promises.type_param A.reads E.reads A.spells E.spells A.normal E.normal A.shown E.values) };
+    ghost promise = { Headline (promises.type_param A.Attributes E.Value) };
 
     fn parse(alloc: Global, input: &mut ParseStream<'_>) -> Result<TypeParamOf<A, E>, Error>
         ensures reads { Reads (knot.type_param A.reads E.reads input.old) result input.new }
         ensures within { Follows input.old input.new }
-        ensures promise { Heads
-            (promises.type_param A.reads E.reads A.spells E.spells A.normal E.normal A.shown E.values)
-            input.old result input.new }
+        ensures promise { Heads (promises.type_param A.Attributes E.Value) input.old result input.new }
         ensures front { Takes (fronts.type_param A.spells E.spells) input.old result input.new }
     {
         parse_type_param(alloc, input)
@@ -1343,8 +1332,7 @@ impl<A: Attributes, E: Value> Parse for ConstParamOf<TypeOf<A, E>, A, E> {
 
     ghost refuses = { Fails (knot.const_param A.reads E.reads) };
 
-    ghost promise = { Headline
-        (promises.const_param A.reads E.reads A.spells E.spells A.normal E.normal A.shown E.values) };
+    ghost promise = { Headline (promises.const_param A.Attributes E.Value) };
 
     fn parse(
         alloc: Global,
@@ -1352,9 +1340,7 @@ impl<A: Attributes, E: Value> Parse for ConstParamOf<TypeOf<A, E>, A, E> {
     ) -> Result<ConstParamOf<TypeOf<A, E>, A, E>, Error>
         ensures reads { Reads (knot.const_param A.reads E.reads input.old) result input.new }
         ensures within { Follows input.old input.new }
-        ensures promise { Heads
-            (promises.const_param A.reads E.reads A.spells E.spells A.normal E.normal A.shown E.values)
-            input.old result input.new }
+        ensures promise { Heads (promises.const_param A.Attributes E.Value) input.old result input.new }
         ensures front { Takes (fronts.const_param A.spells E.spells) input.old result input.new }
     {
         parse_const_param(alloc, input)

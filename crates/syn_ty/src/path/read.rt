@@ -1037,11 +1037,9 @@ impl<A: Attributes, E: Value> ReadArguments for PathArgumentsOf<A, E> {
 
     ghost reads_segment = { knot.segment A.reads E.reads };
 
-    ghost promise_path = { Headline
-        (promises.path A.reads E.reads A.spells E.spells A.normal E.normal A.shown E.values) };
+    ghost promise_path = { Headline (promises.path A.Attributes E.Value) };
 
-    ghost promise_segment = { Headline
-        (promises.segment A.reads E.reads A.spells E.spells A.normal E.normal A.shown E.values) };
+    ghost promise_segment = { Headline (promises.segment A.Attributes E.Value) };
 
     ghost spells_path = { fronts.path A.spells E.spells };
 
@@ -1052,8 +1050,7 @@ impl<A: Attributes, E: Value> ReadArguments for PathArgumentsOf<A, E> {
         input: &mut ParseStream<'_>,
     ) -> Result<PathOf<PathArgumentsOf<A, E>>, Error>
         ensures parses { Parses (knot.path A.reads E.reads styles.AsWritten) result input.old input.new }
-        ensures promise { Heads (promises.path A.reads E.reads A.spells E.spells A.normal E.normal A.shown E.values)
-            input.old result input.new }
+        ensures promise { Heads (promises.path A.Attributes E.Value) input.old result input.new }
         ensures front { Takes (fronts.path A.spells E.spells) input.old result input.new }
     {
         parse_path::<A, E>(alloc, input, PathStyle::AsWritten)
@@ -1064,8 +1061,7 @@ impl<A: Attributes, E: Value> ReadArguments for PathArgumentsOf<A, E> {
         input: &mut ParseStream<'_>,
     ) -> Result<PathSegmentOf<PathArgumentsOf<A, E>>, Error>
         ensures parses { Parses (knot.segment A.reads E.reads) result input.old input.new }
-        ensures promise { Heads (promises.segment A.reads E.reads A.spells E.spells A.normal E.normal A.shown E.values)
-            input.old result input.new }
+        ensures promise { Heads (promises.segment A.Attributes E.Value) input.old result input.new }
         ensures front { Takes (fronts.segment A.spells E.spells) input.old result input.new }
     {
         parse_segment::<A, E>(alloc, input)
@@ -1087,14 +1083,12 @@ impl<A: Attributes, E: Value> Parse for GenericArgumentOf<A, E> {
 
     ghost refuses = { Fails (knot.argument A.reads E.reads) };
 
-    ghost promise = { Headline
-        (promises.argument A.reads E.reads A.spells E.spells A.normal E.normal A.shown E.values) };
+    ghost promise = { Headline (promises.argument A.Attributes E.Value) };
 
     fn parse(alloc: Global, input: &mut ParseStream<'_>) -> Result<GenericArgumentOf<A, E>, Error>
         ensures reads { Reads (knot.argument A.reads E.reads input.old) result input.new }
         ensures within { Follows input.old input.new }
-        ensures promise { Heads (promises.argument A.reads E.reads A.spells E.spells A.normal E.normal A.shown E.values)
-            input.old result input.new }
+        ensures promise { Heads (promises.argument A.Attributes E.Value) input.old result input.new }
         ensures front { Takes (fronts.argument A.spells E.spells) input.old result input.new }
     {
         parse_argument::<A, E>(alloc, input)
@@ -1114,7 +1108,7 @@ impl<A: Attributes, E: Value> Parse for AngleBracketedGenericArgumentsOf<Generic
 
     ghost refuses = { Fails (knot.angle_bracketed A.reads E.reads) };
 
-    ghost promise = { Headline (promises.angle A.reads E.reads A.spells E.spells A.normal E.normal A.shown E.values) };
+    ghost promise = { Headline (promises.angle A.Attributes E.Value) };
 
     fn parse(
         alloc: Global,
@@ -1122,8 +1116,7 @@ impl<A: Attributes, E: Value> Parse for AngleBracketedGenericArgumentsOf<Generic
     ) -> Result<AngleBracketedGenericArgumentsOf<GenericArgumentOf<A, E>>, Error>
         ensures reads { Reads (knot.angle_bracketed A.reads E.reads input.old) result input.new }
         ensures within { Follows input.old input.new }
-        ensures promise { Heads (promises.angle A.reads E.reads A.spells E.spells A.normal E.normal A.shown E.values)
-            input.old result input.new }
+        ensures promise { Heads (promises.angle A.Attributes E.Value) input.old result input.new }
         ensures front { Takes (fronts.angle A.spells E.spells) input.old result input.new }
     {
         parse_angle_bracketed::<A, E>(alloc, input)
@@ -1144,9 +1137,7 @@ impl<A: Attributes, E: Value> AngleBracketedGenericArgumentsOf<GenericArgumentOf
         input: &mut ParseStream<'_>,
     ) -> Result<AngleBracketedGenericArgumentsOf<GenericArgumentOf<A, E>>, Error>
         ensures parses { Parses (knot.turbofish A.reads E.reads) result input.old input.new }
-        ensures promise { Heads
-            (promises.turbofish A.reads E.reads A.spells E.spells A.normal E.normal A.shown E.values)
-            input.old result input.new }
+        ensures promise { Heads (promises.turbofish A.Attributes E.Value) input.old result input.new }
         ensures front { Takes (fronts.turbofish A.spells E.spells) input.old result input.new }
     {
         parse_turbofish::<A, E>(alloc, input)
@@ -1166,8 +1157,7 @@ impl<A: Attributes, E: Value> Parse for ParenthesizedGenericArgumentsOf<TypeOf<A
 
     ghost refuses = { Fails (knot.parenthesized A.reads E.reads) };
 
-    ghost promise = { Headline
-        (promises.parenthesized A.reads E.reads A.spells E.spells A.normal E.normal A.shown E.values) };
+    ghost promise = { Headline (promises.parenthesized A.Attributes E.Value) };
 
     fn parse(
         alloc: Global,
@@ -1175,9 +1165,7 @@ impl<A: Attributes, E: Value> Parse for ParenthesizedGenericArgumentsOf<TypeOf<A
     ) -> Result<ParenthesizedGenericArgumentsOf<TypeOf<A, E>, A>, Error>
         ensures reads { Reads (knot.parenthesized A.reads E.reads input.old) result input.new }
         ensures within { Follows input.old input.new }
-        ensures promise { Heads
-            (promises.parenthesized A.reads E.reads A.spells E.spells A.normal E.normal A.shown E.values)
-            input.old result input.new }
+        ensures promise { Heads (promises.parenthesized A.Attributes E.Value) input.old result input.new }
         ensures front { Takes (fronts.parenthesized A.spells E.spells) input.old result input.new }
     {
         parse_parenthesized::<A, E>(alloc, input)

@@ -52,9 +52,7 @@ impl<A: Attributes, E: Value> TypeOf<A, E> {
     #[tactic(auto, using(crate::proofs::ty_laws::Groups::groups))]
     pub fn without_plus(alloc: Global, input: &mut ParseStream<'_>) -> Result<TypeOf<A, E>, Error>
         ensures parses { Parses (knot.ty A.reads E.reads NoPlus) result input.old input.new }
-        ensures promise { Heads
-            (promises.ty A.reads E.reads A.spells E.spells A.normal E.normal A.shown E.values NoPlus)
-            input.old result input.new }
+        ensures promise { Heads (promises.ty A.Attributes E.Value NoPlus) input.old result input.new }
         ensures front { Takes (fronts.ty A.spells E.spells NoPlus) input.old result input.new }
         ensures group { TakesGroup (fronts.grouped A.spells E.spells) input.old result input.new }
         ensures cases { sees_invisible input.old.rest ≡ true → IfOk result
@@ -73,21 +71,17 @@ impl<A: Attributes, E: Value> Parse for TypeOf<A, E> {
 
     ghost refuses = { Fails (knot.ty A.reads E.reads Plus) };
 
-    ghost promise = { Headline
-        (promises.ty A.reads E.reads A.spells E.spells A.normal E.normal A.shown E.values Plus) };
+    ghost promise = { Headline (promises.ty A.Attributes E.Value Plus) };
 
-    ghost fronts = { said (promises.ty_front A.reads E.reads A.spells E.spells A.normal E.normal A.shown E.values) };
+    ghost fronts = { said (promises.ty_front A.Attributes E.Value) };
 
     #[tactic(auto, using(crate::proofs::ty_laws::Groups::groups))]
     fn parse(alloc: Global, input: &mut ParseStream<'_>) -> Result<TypeOf<A, E>, Error>
         ensures reads { Reads (knot.ty A.reads E.reads Plus input.old) result input.new }
         ensures within { Follows input.old input.new }
-        ensures promise { Heads (promises.ty A.reads E.reads A.spells E.spells A.normal E.normal A.shown E.values Plus)
-            input.old result input.new }
+        ensures promise { Heads (promises.ty A.Attributes E.Value Plus) input.old result input.new }
         ensures front { Takes (fronts.ty A.spells E.spells Plus) input.old result input.new }
-        ensures fronts { Fronted
-            (promises.ty_front A.reads E.reads A.spells E.spells A.normal E.normal A.shown E.values)
-            input.old result input.new }
+        ensures fronts { Fronted (promises.ty_front A.Attributes E.Value) input.old result input.new }
         ensures group { TakesGroup (fronts.grouped A.spells E.spells) input.old result input.new }
         ensures cases { sees_invisible input.old.rest ≡ true → IfOk result
             (λ x. IsReadGrouped (knot.reads_below A.reads E.reads (ahead input.old)) input.old x input.new) }
@@ -103,9 +97,7 @@ impl<A: Attributes, E: Value> ReturnTypeOf<TypeOf<A, E>> {
         input: &mut ParseStream<'_>,
     ) -> Result<ReturnTypeOf<TypeOf<A, E>>, Error>
         ensures parses { Parses (knot.return_type A.reads E.reads NoPlus) result input.old input.new }
-        ensures promise { Heads
-            (promises.return_type A.reads E.reads A.spells E.spells A.normal E.normal A.shown E.values NoPlus)
-            input.old result input.new }
+        ensures promise { Heads (promises.return_type A.Attributes E.Value NoPlus) input.old result input.new }
         ensures front { Takes (fronts.return_type A.spells E.spells NoPlus) input.old result input.new }
     {
         parse_return_type(alloc, input, TypePlace::NoPlus)
@@ -118,8 +110,7 @@ impl<A: Attributes, E: Value> Parse for ReturnTypeOf<TypeOf<A, E>> {
 
     ghost refuses = { Fails (knot.return_type A.reads E.reads Plus) };
 
-    ghost promise = { Headline
-        (promises.return_type A.reads E.reads A.spells E.spells A.normal E.normal A.shown E.values Plus) };
+    ghost promise = { Headline (promises.return_type A.Attributes E.Value Plus) };
 
     fn parse(
         alloc: Global,
@@ -127,9 +118,7 @@ impl<A: Attributes, E: Value> Parse for ReturnTypeOf<TypeOf<A, E>> {
     ) -> Result<ReturnTypeOf<TypeOf<A, E>>, Error>
         ensures reads { Reads (knot.return_type A.reads E.reads Plus input.old) result input.new }
         ensures within { Follows input.old input.new }
-        ensures promise { Heads
-            (promises.return_type A.reads E.reads A.spells E.spells A.normal E.normal A.shown E.values Plus)
-            input.old result input.new }
+        ensures promise { Heads (promises.return_type A.Attributes E.Value Plus) input.old result input.new }
         ensures front { Takes (fronts.return_type A.spells E.spells Plus) input.old result input.new }
     {
         parse_return_type(alloc, input, TypePlace::Plus)
@@ -143,9 +132,7 @@ impl<A: Attributes, E: Value> TypeTraitObjectOf<TypeParamBoundOf<A, E>, A> {
         input: &mut ParseStream<'_>,
     ) -> Result<TypeTraitObjectOf<TypeParamBoundOf<A, E>, A>, Error>
         ensures parses { Parses (knot.trait_object A.reads E.reads false) result input.old input.new }
-        ensures promise { Heads
-            (promises.trait_object A.reads E.reads A.spells E.spells A.normal E.normal A.shown E.values NoPlus)
-            input.old result input.new }
+        ensures promise { Heads (promises.trait_object A.Attributes E.Value NoPlus) input.old result input.new }
         ensures front { Takes (fronts.trait_object A.spells E.spells NoPlus) input.old result input.new }
     {
         parse_trait_object(alloc, input, false)
@@ -158,8 +145,7 @@ impl<A: Attributes, E: Value> Parse for TypeTraitObjectOf<TypeParamBoundOf<A, E>
 
     ghost refuses = { Fails (knot.trait_object A.reads E.reads true) };
 
-    ghost promise = { Headline
-        (promises.trait_object A.reads E.reads A.spells E.spells A.normal E.normal A.shown E.values Plus) };
+    ghost promise = { Headline (promises.trait_object A.Attributes E.Value Plus) };
 
     fn parse(
         alloc: Global,
@@ -167,9 +153,7 @@ impl<A: Attributes, E: Value> Parse for TypeTraitObjectOf<TypeParamBoundOf<A, E>
     ) -> Result<TypeTraitObjectOf<TypeParamBoundOf<A, E>, A>, Error>
         ensures reads { Reads (knot.trait_object A.reads E.reads true input.old) result input.new }
         ensures within { Follows input.old input.new }
-        ensures promise { Heads
-            (promises.trait_object A.reads E.reads A.spells E.spells A.normal E.normal A.shown E.values Plus)
-            input.old result input.new }
+        ensures promise { Heads (promises.trait_object A.Attributes E.Value Plus) input.old result input.new }
         ensures front { Takes (fronts.trait_object A.spells E.spells Plus) input.old result input.new }
     {
         parse_trait_object(alloc, input, true)
@@ -183,9 +167,7 @@ impl<A: Attributes, E: Value> TypeImplTraitOf<TypeParamBoundOf<A, E>, A> {
         input: &mut ParseStream<'_>,
     ) -> Result<TypeImplTraitOf<TypeParamBoundOf<A, E>, A>, Error>
         ensures parses { Parses (knot.impl_trait A.reads E.reads false) result input.old input.new }
-        ensures promise { Heads
-            (promises.impl_trait A.reads E.reads A.spells E.spells A.normal E.normal A.shown E.values NoPlus)
-            input.old result input.new }
+        ensures promise { Heads (promises.impl_trait A.Attributes E.Value NoPlus) input.old result input.new }
         ensures front { Takes (fronts.impl_trait A.spells E.spells NoPlus) input.old result input.new }
     {
         parse_impl_trait(alloc, input, false)
@@ -198,8 +180,7 @@ impl<A: Attributes, E: Value> Parse for TypeImplTraitOf<TypeParamBoundOf<A, E>, 
 
     ghost refuses = { Fails (knot.impl_trait A.reads E.reads true) };
 
-    ghost promise = { Headline
-        (promises.impl_trait A.reads E.reads A.spells E.spells A.normal E.normal A.shown E.values Plus) };
+    ghost promise = { Headline (promises.impl_trait A.Attributes E.Value Plus) };
 
     fn parse(
         alloc: Global,
@@ -207,9 +188,7 @@ impl<A: Attributes, E: Value> Parse for TypeImplTraitOf<TypeParamBoundOf<A, E>, 
     ) -> Result<TypeImplTraitOf<TypeParamBoundOf<A, E>, A>, Error>
         ensures reads { Reads (knot.impl_trait A.reads E.reads true input.old) result input.new }
         ensures within { Follows input.old input.new }
-        ensures promise { Heads
-            (promises.impl_trait A.reads E.reads A.spells E.spells A.normal E.normal A.shown E.values Plus)
-            input.old result input.new }
+        ensures promise { Heads (promises.impl_trait A.Attributes E.Value Plus) input.old result input.new }
         ensures front { Takes (fronts.impl_trait A.spells E.spells Plus) input.old result input.new }
     {
         parse_impl_trait(alloc, input, true)
@@ -222,7 +201,7 @@ impl<A: Attributes, E: Value> Parse for TypeArrayOf<TypeOf<A, E>, A, E> {
 
     ghost refuses = { Fails (knot.array A.reads E.reads) };
 
-    ghost promise = { Headline (promises.array A.reads E.reads A.spells E.spells A.normal E.normal A.shown E.values) };
+    ghost promise = { Headline (promises.array A.Attributes E.Value) };
 
     fn parse(
         alloc: Global,
@@ -230,8 +209,7 @@ impl<A: Attributes, E: Value> Parse for TypeArrayOf<TypeOf<A, E>, A, E> {
     ) -> Result<TypeArrayOf<TypeOf<A, E>, A, E>, Error>
         ensures reads { Reads (knot.array A.reads E.reads input.old) result input.new }
         ensures within { Follows input.old input.new }
-        ensures promise { Heads (promises.array A.reads E.reads A.spells E.spells A.normal E.normal A.shown E.values)
-            input.old result input.new }
+        ensures promise { Heads (promises.array A.Attributes E.Value) input.old result input.new }
         ensures front { Takes (fronts.array A.spells E.spells) input.old result input.new }
     {
         parse_array(alloc, input)
@@ -245,13 +223,12 @@ impl<A: Attributes, E: Value> Parse for TypeFnPtrOf<A, E> {
 
     ghost refuses = { Fails (knot.fn_ptr A.reads E.reads) };
 
-    ghost promise = { Headline (promises.fn_ptr A.reads E.reads A.spells E.spells A.normal E.normal A.shown E.values) };
+    ghost promise = { Headline (promises.fn_ptr A.Attributes E.Value) };
 
     fn parse(alloc: Global, input: &mut ParseStream<'_>) -> Result<TypeFnPtrOf<A, E>, Error>
         ensures reads { Reads (knot.fn_ptr A.reads E.reads input.old) result input.new }
         ensures within { Follows input.old input.new }
-        ensures promise { Heads (promises.fn_ptr A.reads E.reads A.spells E.spells A.normal E.normal A.shown E.values)
-            input.old result input.new }
+        ensures promise { Heads (promises.fn_ptr A.Attributes E.Value) input.old result input.new }
         ensures front { Takes (fronts.fn_ptr A.spells E.spells) input.old result input.new }
     {
         parse_fn_ptr(alloc, input)
@@ -264,7 +241,7 @@ impl<A: Attributes, E: Value> Parse for TypeGroupOf<TypeOf<A, E>, A> {
 
     ghost refuses = { Fails (knot.group A.reads E.reads) };
 
-    ghost promise = { Headline (promises.group A.reads E.reads A.spells E.spells A.normal E.normal A.shown E.values) };
+    ghost promise = { Headline (promises.group A.Attributes E.Value) };
 
     fn parse(
         alloc: Global,
@@ -272,8 +249,7 @@ impl<A: Attributes, E: Value> Parse for TypeGroupOf<TypeOf<A, E>, A> {
     ) -> Result<TypeGroupOf<TypeOf<A, E>, A>, Error>
         ensures reads { Reads (knot.group A.reads E.reads input.old) result input.new }
         ensures within { Follows input.old input.new }
-        ensures promise { Heads (promises.group A.reads E.reads A.spells E.spells A.normal E.normal A.shown E.values)
-            input.old result input.new }
+        ensures promise { Heads (promises.group A.Attributes E.Value) input.old result input.new }
         ensures front { Takes (fronts.group A.spells E.spells) input.old result input.new }
     {
         parse_group(alloc, input)
@@ -286,7 +262,7 @@ impl<A: Attributes, E: Value> Parse for TypeParenOf<TypeOf<A, E>, A> {
 
     ghost refuses = { Fails (knot.paren A.reads E.reads) };
 
-    ghost promise = { Headline (promises.paren A.reads E.reads A.spells E.spells A.normal E.normal A.shown E.values) };
+    ghost promise = { Headline (promises.paren A.Attributes E.Value) };
 
     fn parse(
         alloc: Global,
@@ -294,8 +270,7 @@ impl<A: Attributes, E: Value> Parse for TypeParenOf<TypeOf<A, E>, A> {
     ) -> Result<TypeParenOf<TypeOf<A, E>, A>, Error>
         ensures reads { Reads (knot.paren A.reads E.reads input.old) result input.new }
         ensures within { Follows input.old input.new }
-        ensures promise { Heads (promises.paren A.reads E.reads A.spells E.spells A.normal E.normal A.shown E.values)
-            input.old result input.new }
+        ensures promise { Heads (promises.paren A.Attributes E.Value) input.old result input.new }
         ensures front { Takes (fronts.paren A.spells E.spells) input.old result input.new }
     {
         parse_paren(alloc, input)
@@ -308,15 +283,12 @@ impl<A: Attributes, E: Value> Parse for TypePathOf<A, E> {
 
     ghost refuses = { Fails (knot.path_type A.reads E.reads) };
 
-    ghost promise = { Headline
-        (promises.path_type A.reads E.reads A.spells E.spells A.normal E.normal A.shown E.values) };
+    ghost promise = { Headline (promises.path_type A.Attributes E.Value) };
 
     fn parse(alloc: Global, input: &mut ParseStream<'_>) -> Result<TypePathOf<A, E>, Error>
         ensures reads { Reads (knot.path_type A.reads E.reads input.old) result input.new }
         ensures within { Follows input.old input.new }
-        ensures promise { Heads
-            (promises.path_type A.reads E.reads A.spells E.spells A.normal E.normal A.shown E.values)
-            input.old result input.new }
+        ensures promise { Heads (promises.path_type A.Attributes E.Value) input.old result input.new }
         ensures front { Takes (fronts.path_type A.spells E.spells) input.old result input.new }
     {
         parse_path_type(alloc, input)
@@ -329,7 +301,7 @@ impl<A: Attributes, E: Value> Parse for TypePtrOf<TypeOf<A, E>, A> {
 
     ghost refuses = { Fails (knot.ptr A.reads E.reads) };
 
-    ghost promise = { Headline (promises.ptr A.reads E.reads A.spells E.spells A.normal E.normal A.shown E.values) };
+    ghost promise = { Headline (promises.ptr A.Attributes E.Value) };
 
     fn parse(
         alloc: Global,
@@ -337,8 +309,7 @@ impl<A: Attributes, E: Value> Parse for TypePtrOf<TypeOf<A, E>, A> {
     ) -> Result<TypePtrOf<TypeOf<A, E>, A>, Error>
         ensures reads { Reads (knot.ptr A.reads E.reads input.old) result input.new }
         ensures within { Follows input.old input.new }
-        ensures promise { Heads (promises.ptr A.reads E.reads A.spells E.spells A.normal E.normal A.shown E.values)
-            input.old result input.new }
+        ensures promise { Heads (promises.ptr A.Attributes E.Value) input.old result input.new }
         ensures front { Takes (fronts.ptr A.spells E.spells) input.old result input.new }
     {
         parse_ptr(alloc, input)
@@ -351,8 +322,7 @@ impl<A: Attributes, E: Value> Parse for TypeReferenceOf<TypeOf<A, E>, A> {
 
     ghost refuses = { Fails (knot.reference A.reads E.reads) };
 
-    ghost promise = { Headline
-        (promises.reference A.reads E.reads A.spells E.spells A.normal E.normal A.shown E.values) };
+    ghost promise = { Headline (promises.reference A.Attributes E.Value) };
 
     fn parse(
         alloc: Global,
@@ -360,9 +330,7 @@ impl<A: Attributes, E: Value> Parse for TypeReferenceOf<TypeOf<A, E>, A> {
     ) -> Result<TypeReferenceOf<TypeOf<A, E>, A>, Error>
         ensures reads { Reads (knot.reference A.reads E.reads input.old) result input.new }
         ensures within { Follows input.old input.new }
-        ensures promise { Heads
-            (promises.reference A.reads E.reads A.spells E.spells A.normal E.normal A.shown E.values)
-            input.old result input.new }
+        ensures promise { Heads (promises.reference A.Attributes E.Value) input.old result input.new }
         ensures front { Takes (fronts.reference A.spells E.spells) input.old result input.new }
     {
         parse_reference(alloc, input)
@@ -375,7 +343,7 @@ impl<A: Attributes, E: Value> Parse for TypeSliceOf<TypeOf<A, E>, A> {
 
     ghost refuses = { Fails (knot.slice A.reads E.reads) };
 
-    ghost promise = { Headline (promises.slice A.reads E.reads A.spells E.spells A.normal E.normal A.shown E.values) };
+    ghost promise = { Headline (promises.slice A.Attributes E.Value) };
 
     fn parse(
         alloc: Global,
@@ -383,8 +351,7 @@ impl<A: Attributes, E: Value> Parse for TypeSliceOf<TypeOf<A, E>, A> {
     ) -> Result<TypeSliceOf<TypeOf<A, E>, A>, Error>
         ensures reads { Reads (knot.slice A.reads E.reads input.old) result input.new }
         ensures within { Follows input.old input.new }
-        ensures promise { Heads (promises.slice A.reads E.reads A.spells E.spells A.normal E.normal A.shown E.values)
-            input.old result input.new }
+        ensures promise { Heads (promises.slice A.Attributes E.Value) input.old result input.new }
         ensures front { Takes (fronts.slice A.spells E.spells) input.old result input.new }
     {
         parse_slice(alloc, input)
@@ -397,7 +364,7 @@ impl<A: Attributes, E: Value> Parse for TypeTupleOf<TypeOf<A, E>, A> {
 
     ghost refuses = { Fails (knot.tuple A.reads E.reads) };
 
-    ghost promise = { Headline (promises.tuple A.reads E.reads A.spells E.spells A.normal E.normal A.shown E.values) };
+    ghost promise = { Headline (promises.tuple A.Attributes E.Value) };
 
     fn parse(
         alloc: Global,
@@ -405,8 +372,7 @@ impl<A: Attributes, E: Value> Parse for TypeTupleOf<TypeOf<A, E>, A> {
     ) -> Result<TypeTupleOf<TypeOf<A, E>, A>, Error>
         ensures reads { Reads (knot.tuple A.reads E.reads input.old) result input.new }
         ensures within { Follows input.old input.new }
-        ensures promise { Heads (promises.tuple A.reads E.reads A.spells E.spells A.normal E.normal A.shown E.values)
-            input.old result input.new }
+        ensures promise { Heads (promises.tuple A.Attributes E.Value) input.old result input.new }
         ensures front { Takes (fronts.tuple A.spells E.spells) input.old result input.new }
     {
         parse_tuple(alloc, input)
@@ -419,8 +385,7 @@ impl<A: Attributes, E: Value> Parse for NamedArgOf<TypeOf<A, E>, A> {
 
     ghost refuses = { Fails (knot.named_arg A.reads E.reads) };
 
-    ghost promise = { Headline
-        (promises.named_arg A.reads E.reads A.spells E.spells A.normal E.normal A.shown E.values) };
+    ghost promise = { Headline (promises.named_arg A.Attributes E.Value) };
 
     fn parse(
         alloc: Global,
@@ -428,9 +393,7 @@ impl<A: Attributes, E: Value> Parse for NamedArgOf<TypeOf<A, E>, A> {
     ) -> Result<NamedArgOf<TypeOf<A, E>, A>, Error>
         ensures reads { Reads (knot.named_arg A.reads E.reads input.old) result input.new }
         ensures within { Follows input.old input.new }
-        ensures promise { Heads
-            (promises.named_arg A.reads E.reads A.spells E.spells A.normal E.normal A.shown E.values)
-            input.old result input.new }
+        ensures promise { Heads (promises.named_arg A.Attributes E.Value) input.old result input.new }
         ensures front { Takes (fronts.named_arg A.spells E.spells) input.old result input.new }
     {
         parse_named_arg(alloc, input)

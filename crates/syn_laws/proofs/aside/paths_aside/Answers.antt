@@ -2,4 +2,4 @@ use Rattle.syn_laws.proofs.aside_laws.Readers.{paths}
 use Rattle.syn_laws.proofs.aside.paths_aside.Goals as goal
 
 pub returns : goal.returns
-returns g c = paths g.X.Subtree.reads g.X.Subtree.spells g.X.Subtree.normal g.X.Subtree.prints g.X.Subtree.bare g.met.X.Subtree.moves g.met.X.Subtree.steady g.met.X.Subtree.sound g.met.X.Subtree.complete g.met.X.Subtree.reprint g.met.X.Subtree.apart
+returns g c = paths g.X.Subtree g.met.X.Subtree.moves g.met.X.Subtree.steady g.met.X.Subtree.sound g.met.X.Subtree.complete g.met.X.Subtree.reprint g.met.X.Subtree.apart

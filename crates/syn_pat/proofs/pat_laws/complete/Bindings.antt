@@ -1,34 +1,22 @@
 -- A binding, a reference and `_` that a list spells clearly are what their reads answer, over the reads of the patterns within.
 use Rattle.std.proofs.Common.{◌≡◌, ℕ, ◌≤◌, Bool, true, false, ◌||◌, if◌then◌else◌, [], Option, Some, None, Ok, Err, refl, ◌∙◌, ap, arith}
-use Rattle.token_core.specs.declared.span.Span.{Span}
-use Rattle.token_core.specs.declared.tree.Ident.{Ident}
-use Rattle.token_core.specs.declared.word.Word.{Word}
-use Rattle.token_core.specs.Keywords.{is_keyword}
-use Rattle.token_core.specs.Marks.{read_named, text_of}
-use Rattle.token_core.specs.Reads.{any_text, expected, ident_name, is_ident, is_text, next_word, optional, read_word, sees_word}
-use Rattle.token_core.specs.Spellings.{IsMark, IsWord, is_word}
-use Rattle.token_core.specs.Stream.{Scope}
+use Rattle.syn_pat.proofs.pat_laws.words.Tokens.{Span, Ident, Word, is_keyword, text_of, ident_name, is_ident, is_text, optional, read_word, sees_word, IsMark, IsWord, is_word, Scope, Toks, word}
+use Rattle.syn_pat.proofs.pat_laws.words.Paths.{Place}
+use Rattle.syn_pat.proofs.pat_laws.words.Forms.{ahead, mutable}
+use Rattle.syn_pat.proofs.pat_laws.words.Types.{Manner, clearly, IsOptional, absent, present, Relation}
+use Rattle.syn_pat.proofs.pat_laws.words.Patterns.{PatPlace, Single, IsBinding, a_binding, IsSubpat, a_subpat, Pat, PatIdent, reference_of, wild_of, Readers, binding, reference, is_binding_name}
+use Rattle.token_core.specs.Marks.{read_named}
+use Rattle.token_core.specs.Reads.{any_text, expected, next_word}
 use Rattle.token_core.specs.Tokens as token
-use Rattle.token_core.specs.Toks.{Toks, word}
 use Rattle.token_core.proofs.MarkSpells.{mark_complete, mark_seen}
 use Rattle.token_core.proofs.Steps.{Reads_to, chosen, link}
 use Rattle.token_core.proofs.Took.{at, seen_word}
 use Rattle.token_core.proofs.WordSpells.{word_complete, word_seen}
-use Rattle.syn_path.specs.declared.supplied.Place.{Place}
-use Rattle.syn_forms.specs.nested.Below.{ahead}
-use Rattle.syn_forms.specs.tokens.Reading.{mutable}
-use Rattle.syn_ty.specs.ty.Parts.{Manner, clearly}
-use Rattle.syn_ty.specs.ty.Spelling.{IsOptional, absent, present, Relation}
 use Rattle.syn_ty.proofs.ty_laws.complete.Leaves.{later}
 use Rattle.syn_ty.proofs.ty_laws.complete.Less.{less_no, mark_takes, no_less, optional_no, some, word_less, word_takes}
 use Rattle.syn_ty.proofs.ty_laws.complete.Within.{Less, NoMore}
 use Rattle.syn_ty.proofs.ty_laws.complete.Params.{absent_met, present_met}
-use Rattle.syn_pat.specs.declared.place.PatPlace.{PatPlace}
-use Rattle.syn_pat.specs.declared.place.PatPlace.TheVariants.{Single}
-use Rattle.syn_pat.specs.pat.Admitted.{IsBinding, a_binding, IsSubpat, a_subpat}
-use Rattle.syn_pat.specs.pat.Pats.{Pat, PatIdent, reference_of, wild_of}
-use Rattle.syn_pat.specs.pat.Reading.{Readers, binding, bound_head, bound_name, optional_subpat, reference, subpat, wild}
-use Rattle.syn_pat.specs.pat.Spelling.{is_binding_name}
+use Rattle.syn_pat.specs.pat.Reading.{bound_head, bound_name, optional_subpat, subpat, wild}
 use Rattle.syn_pat.proofs.pat_laws.complete.Names.{not_bound}
 use Rattle.syn_pat.proofs.pat_laws.complete.Within.{Ends, Meets, single_in}
 

@@ -2,55 +2,32 @@
 use Rattle.std.specs.Prelude.{is_some}
 use Rattle.std.proofs.Common.{◌≡◌, ℕ, zero, ◌≤◌, Bool, true, false, not, ◌&&◌, List, [], Option, Some, None, refl, ◌∙◌, ap, map}
 use Rattle.std.proofs.lemmas.Bool.{and_left}
-use Rattle.token_core.specs.declared.span.DelimSpan.{DelimSpan}
-use Rattle.token_core.specs.declared.span.Span.{Span}
-use Rattle.token_core.specs.declared.tree.Delimiter.{Delimiter}
-use Rattle.token_core.specs.declared.tree.Delimiter.TheVariants.{Brace, Parenthesis}
-use Rattle.token_core.specs.declared.tree.Ident.{Ident}
-use Rattle.token_core.specs.declared.tree.Spacing.{Spacing}
-use Rattle.token_core.specs.declared.tree.Spacing.TheVariants.{Joint}
+use Rattle.syn_pat.proofs.pat_laws.words.Tokens.{DelimSpan, Span, Delimiter, Brace, Parenthesis, Ident, Spacing, Joint, AreListed, Nowhere, last_value, value_and_mark, Many, Reader, sees_group, sees_mark, none, IsMark, is_mark, last_char, more_chars, Scope, Toks, mark, group, word, TokenStream, punct}
+use Rattle.syn_pat.proofs.pat_laws.words.Paths.{Place, ModPath, lone_ident, nothing, IsBarePath, a_bare_path, last_segment, leading, more_segments, no_leading}
+use Rattle.syn_pat.proofs.pat_laws.words.Forms.{ahead}
+use Rattle.syn_pat.proofs.pat_laws.words.Attributes.{expr_macro_of, Expr}
+use Rattle.syn_pat.proofs.pat_laws.words.Types.{is_mod_style, is_segment_word, unqualified, IsSegment, a_word, IsPath, a_path, Manner, clearly, Parts, sees_call, IsOptional, absent, present, Relation, Path, PathSegment, QSelf, Comma}
+use Rattle.syn_pat.proofs.pat_laws.words.Patterns.{PatPlace, LeadingVert, AreElements, AreFields, FieldPat, Pat, PatRest, path_pat_of, struct_of, tuple_struct_of, Readers, after_bound, after_path, begins_path, elements, type_names, IsPatPath, a_pat_path, is_self, types_to}
 use Rattle.token_core.specs.Groups as groups
-use Rattle.token_core.specs.Listed.{AreListed, Nowhere, last_value, value_and_mark}
-use Rattle.token_core.specs.Loops.{Many}
-use Rattle.token_core.specs.Reads.{Reader, sees_group, sees_mark}
-use Rattle.token_core.specs.Spans.{none}
-use Rattle.token_core.specs.Spellings.{IsMark, is_mark, last_char, more_chars}
-use Rattle.token_core.specs.Stream.{Scope}
 use Rattle.token_core.specs.Tokens as token
-use Rattle.token_core.specs.Toks.{Toks, mark, group, word}
-use Rattle.token_core.specs.Trees.{TokenStream, punct, toks}
+use Rattle.token_core.specs.Trees.{toks}
 use Rattle.token_core.proofs.Steps.{Reads_to, chosen, link}
 use Rattle.token_core.proofs.Took.{at}
 use Rattle.syn_path.specs.declared.mac.MacroDelimiter.{MacroDelimiter}
 use Rattle.syn_path.specs.declared.path.PathStyle.TheVariants.{Expr as expressions}
-use Rattle.syn_path.specs.declared.supplied.Place.{Place}
 use Rattle.syn_path.specs.mac.Macros.{macro_of}
 use Rattle.syn_path.specs.mac.Reading as macs
 use Rattle.syn_path.specs.mac.Spelling.{Delimits, bang_at}
-use Rattle.syn_path.specs.path.Paths.{ModPath, ModSegment, Sep, lone_ident, nothing}
+use Rattle.syn_path.specs.path.Paths.{ModSegment, Sep}
 use Rattle.syn_path.specs.path.Spelling as bare
-use Rattle.syn_path.specs.path.Spelling.{IsBarePath, IsLeading, a_bare_path, last_segment, leading, more_segments, no_leading}
+use Rattle.syn_path.specs.path.Spelling.{IsLeading}
 use Rattle.syn_path.proofs.mac_laws.Complete.{call_after_complete}
-use Rattle.syn_attr.specs.attr.Attrs.{Attribute as Attr, expr_macro_of}
-use Rattle.syn_attr.specs.declared.expr.Expr.{Expr}
-use Rattle.syn_forms.specs.nested.Below.{ahead}
+use Rattle.syn_attr.specs.attr.Attrs.{Attribute as Attr}
 use Rattle.syn_forms.proofs.groups_laws.Complete.{content}
-use Rattle.syn_ty.specs.path.Reading.{is_mod_style}
-use Rattle.syn_ty.specs.path.Spelling.{is_segment_word, unqualified, IsSegment, a_word, IsPath, a_path}
-use Rattle.syn_ty.specs.ty.Parts.{Manner, clearly, Parts}
-use Rattle.syn_ty.specs.ty.Reading.{sees_call}
-use Rattle.syn_ty.specs.ty.Spelling.{IsOptional, absent, present, Relation}
-use Rattle.syn_ty.specs.ty.Trees.{Path, PathSegment, QSelf}
-use Rattle.syn_ty.specs.ty.Types.{Comma}
 use Rattle.syn_ty.proofs.ty_laws.complete.Calls.{as_path, bang_call, bare_segment, mod_style, without_back}
 use Rattle.syn_pat.specs.declared.pat.PatOf.TheVariants as v
 use Rattle.syn_pat.specs.declared.pat.PatRangeBoundOf.TheVariants as b
-use Rattle.syn_pat.specs.declared.place.PatPlace.{PatPlace}
-use Rattle.syn_pat.specs.declared.place.PatPlace.TheVariants.{LeadingVert}
-use Rattle.syn_pat.specs.pat.Admitted.{AreElements, AreFields}
-use Rattle.syn_pat.specs.pat.Pats.{FieldPat, Pat, PatRest, path_pat_of, struct_of, tuple_struct_of}
-use Rattle.syn_pat.specs.pat.Reading.{Readers, after_bound, after_path, begins_path, elements, tuple_struct_after, type_names}
-use Rattle.syn_pat.specs.pat.Spelling.{IsPatPath, a_pat_path, is_self, types_to}
+use Rattle.syn_pat.specs.pat.Reading.{tuple_struct_after}
 use Rattle.syn_pat.proofs.pat_laws.complete.Groups.{elements_met, inside_less, parens_met}
 use Rattle.syn_pat.proofs.pat_laws.complete.Names.{before_sep, never_self, no_try_mod, sep_begins, word_begins}
 use Rattle.syn_pat.proofs.pat_laws.complete.Structs.{struct_met}

@@ -2,33 +2,22 @@
 use Rattle.std.specs.Prelude.{is_some}
 use Rattle.std.proofs.Common.{◌≡◌, ℕ, ◌<◌, ◌≤◌, Bool, true, false, ◌||◌, List, [], ◌∷◌, Option, Some, None, refl, ap, arith}
 use Rattle.std.proofs.lemmas.Bool.{or_right}
-use Rattle.token_core.specs.declared.span.Span.{Span}
-use Rattle.token_core.specs.Listed.{AreListed, Nowhere, none_left, last_value, value_and_mark}
-use Rattle.token_core.specs.Loops.{Many, listed, never}
-use Rattle.token_core.specs.Reads.{Reader, ◌>>=◌}
-use Rattle.token_core.specs.Spans.{none}
-use Rattle.token_core.specs.Spellings.{IsMark}
-use Rattle.token_core.specs.Stream.{Scope}
+use Rattle.syn_pat.proofs.pat_laws.words.Tokens.{Span, AreListed, Nowhere, none_left, last_value, value_and_mark, Many, listed, never, Reader, ◌>>=◌, none, IsMark, Scope, Toks}
+use Rattle.syn_pat.proofs.pat_laws.words.Paths.{Place}
+use Rattle.syn_pat.proofs.pat_laws.words.Forms.{list_from, ahead}
+use Rattle.syn_pat.proofs.pat_laws.words.Types.{Manner, clearly, IsOptional, absent, present, Relation}
+use Rattle.syn_pat.proofs.pat_laws.words.Patterns.{PatPlace, Single, Multi, LeadingVert, Element, AreCases, cases, IsPat, a_single, some_cases, one_after_vert, some_after_vert, IsSingle, Pat, or_of, Readers, open_range, pat_step, sees_vert, single, type_names}
 use Rattle.token_core.specs.Tokens as token
-use Rattle.token_core.specs.Toks.{Toks}
 use Rattle.token_core.proofs.MarkSpells.{mark_complete, mark_seen, mark_size}
 use Rattle.token_core.proofs.Steps.{Reads_to, chosen, link}
 use Rattle.token_core.proofs.Took.{at}
-use Rattle.syn_path.specs.declared.supplied.Place.{Place}
-use Rattle.syn_forms.specs.lists.Reading.{list_from}
-use Rattle.syn_forms.specs.nested.Below.{ahead}
 use Rattle.syn_forms.proofs.lists_laws.Complete.{listed_here}
-use Rattle.syn_ty.specs.ty.Parts.{Manner, clearly}
-use Rattle.syn_ty.specs.ty.Spelling.{IsOptional, absent, present, Relation}
 use Rattle.syn_ty.proofs.ty_laws.complete.Leaves.{later, not_more}
 use Rattle.syn_ty.proofs.ty_laws.complete.Less.{less_no, mark_no, mark_takes, some}
 use Rattle.syn_ty.proofs.ty_laws.complete.Params.{absent_met, present_met}
 use Rattle.syn_pat.specs.declared.pat.PatOf.TheVariants as v
-use Rattle.syn_pat.specs.declared.place.PatPlace.{PatPlace}
-use Rattle.syn_pat.specs.declared.place.PatPlace.TheVariants.{Single, Multi, LeadingVert, Element}
-use Rattle.syn_pat.specs.pat.Admitted.{AreCases, cases, IsPat, a_single, some_cases, one_after_vert, some_after_vert, IsSingle}
-use Rattle.syn_pat.specs.pat.Pats.{Pat, PatOr, or_of}
-use Rattle.syn_pat.specs.pat.Reading.{Readers, alternatives, element, leading, multi, open_range, open_range_layer, pat_step, sees_vert, single, unless_open, type_names}
+use Rattle.syn_pat.specs.pat.Pats.{PatOr}
+use Rattle.syn_pat.specs.pat.Reading.{alternatives, element, leading, multi, open_range_layer, unless_open}
 use Rattle.syn_pat.proofs.pat_laws.complete.Firsts.{first_no_bar, single_first, single_less}
 use Rattle.syn_pat.proofs.pat_laws.complete.Singles.{single_met}
 use Rattle.syn_pat.proofs.pat_laws.complete.Within.{Ends, EndsIn, Meets, SuppliedMeets, at_bar, single_in, vert_seen}

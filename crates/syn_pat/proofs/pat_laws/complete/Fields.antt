@@ -1,38 +1,23 @@
 -- The field of a struct that a list spells clearly is what its read answers after its attributes, over the reads of the patterns within.
 use Rattle.std.proofs.Common.{◌≡◌, ℕ, ◌≤◌, true, false, [], Option, Some, None, refl, ◌∙◌, arith}
-use Rattle.token_core.specs.declared.member.Member.{Member}
+use Rattle.syn_pat.proofs.pat_laws.words.Tokens.{Member, Span, Ident, TokenStream, is_keyword, text_of, is_done, is_ident, is_text, sees_mark, sees_word, last_char, IsMark, is_mark, IsMember, IsWord, is_word, Scope, Bytes, Toks, done, word}
+use Rattle.syn_pat.proofs.pat_laws.words.Paths.{Place}
+use Rattle.syn_pat.proofs.pat_laws.words.Forms.{ahead, position}
+use Rattle.syn_pat.proofs.pat_laws.words.Types.{Manner, clearly, Holds, IsOptional, absent, present, Relation, Comma}
+use Rattle.syn_pat.proofs.pat_laws.words.Patterns.{PatPlace, LeadingVert, IsBoxedName, a_boxed_name, IsField, with_colon, without_colon, boxed, Attrs, FieldPat, Pat, binding_of, field_of, Readers, field, outer_spelt}
 use Rattle.token_core.specs.declared.member.Member.TheVariants as member
-use Rattle.token_core.specs.declared.span.Span.{Span}
-use Rattle.token_core.specs.declared.tree.Ident.{Ident}
-use Rattle.token_core.specs.Trees.{TokenStream}
-use Rattle.token_core.specs.Keywords.{is_keyword}
-use Rattle.token_core.specs.Marks.{text_of}
-use Rattle.token_core.specs.Reads.{is_done, is_ident, is_text, sees_mark, sees_word}
-use Rattle.token_core.specs.Spellings.{last_char, IsMark, is_mark, IsMember, named, unnamed, an_index, IsWord, is_word}
-use Rattle.token_core.specs.Stream.{Scope}
+use Rattle.token_core.specs.Spellings.{named, unnamed, an_index}
 use Rattle.token_core.specs.Tokens as token
-use Rattle.token_core.specs.Toks.{Bytes, Toks, done, word}
 use Rattle.token_core.proofs.MarkSpells.{mark_complete, mark_seen}
 use Rattle.token_core.proofs.MemberSpells.{member_complete}
 use Rattle.token_core.proofs.Steps.{Reads_to, chosen, link}
 use Rattle.token_core.proofs.Took.{at, seen_word}
-use Rattle.syn_path.specs.declared.supplied.Place.{Place}
-use Rattle.syn_forms.specs.nested.Below.{ahead}
-use Rattle.syn_forms.specs.verbatim.Reading.{position}
-use Rattle.syn_ty.specs.ty.Parts.{Manner, clearly, Holds}
-use Rattle.syn_ty.specs.ty.Spelling.{IsOptional, absent, present, Relation}
-use Rattle.syn_ty.specs.ty.Types.{Comma}
 use Rattle.syn_ty.proofs.ty_laws.complete.Capture.{since_met}
 use Rattle.syn_ty.proofs.ty_laws.complete.Leaves.{later}
 use Rattle.syn_ty.proofs.ty_laws.complete.Less.{less_less, mark_takes, word_less, word_takes}
 use Rattle.syn_ty.proofs.ty_laws.complete.Within.{Less}
 use Rattle.syn_pat.specs.declared.pat.PatOf.TheVariants as v
-use Rattle.syn_pat.specs.declared.place.PatPlace.{PatPlace}
-use Rattle.syn_pat.specs.declared.place.PatPlace.TheVariants.{LeadingVert}
-use Rattle.syn_pat.specs.pat.Admitted.{IsBoxedName, a_boxed_name, IsField, with_colon, without_colon, boxed}
-use Rattle.syn_pat.specs.pat.Pats.{Attrs, FieldPat, Pat, binding_of, field_of}
-use Rattle.syn_pat.specs.pat.Reading.{Modes, Readers, bound_field, field, has_mode, member_field, modes, plain_field}
-use Rattle.syn_pat.specs.pat.Spelling.{outer_spelt}
+use Rattle.syn_pat.specs.pat.Reading.{Modes, bound_field, has_mode, member_field, modes, plain_field}
 use Rattle.syn_pat.proofs.pat_laws.complete.Bindings.{head_less, ident_met, word_met}
 use Rattle.syn_pat.proofs.pat_laws.complete.Names.{unlike}
 use Rattle.syn_pat.proofs.pat_laws.complete.Within.{EndsIn, Meets, comma_in, end_in}

@@ -1,35 +1,17 @@
 -- What a pattern begins with that a list spells clearly, and that it takes tokens.
 use Rattle.std.proofs.Common.{◌≡◌, ℕ, ◌==◌, true, false, List, [], ◌∷◌, Option, None, refl, arith}
-use Rattle.token_core.specs.declared.lit.Lit.{Lit}
-use Rattle.token_core.specs.declared.range.RangeLimits.{RangeLimits}
-use Rattle.token_core.specs.declared.span.DelimSpan.{DelimSpan}
-use Rattle.token_core.specs.declared.tree.Delimiter.{Delimiter}
-use Rattle.token_core.specs.declared.tree.Delimiter.TheVariants.{Brace}
-use Rattle.token_core.specs.declared.tree.Ident.{Ident}
+use Rattle.syn_pat.proofs.pat_laws.words.Tokens.{Lit, RangeLimits, DelimSpan, Delimiter, Brace, Ident, Punct, Reader, is_done, sees_mark, last_char, more_chars, IsLit, a_literal, a_bool, a_negative, is_mark, IsWord, is_word, AreLimits, half_open, closed, AreOldLimits, new_limits, old_limits, Toks, word, mark, lit, group}
+use Rattle.syn_pat.proofs.pat_laws.words.Paths.{Macro, Place, IsCall, a_macro}
+use Rattle.syn_pat.proofs.pat_laws.words.Attributes.{Expr, ExprConstOf}
+use Rattle.syn_pat.proofs.pat_laws.words.Types.{is_segment_word, Manner, clearly, IsOptional, absent, present, Relation, Path, QSelf}
+use Rattle.syn_pat.proofs.pat_laws.words.Patterns.{PatPlace, Single, a_box, AreCases, cases, IsBinding, a_binding, IsPat, a_single, some_cases, one_after_vert, some_after_vert, IsSubpat, a_subpat, IsSingle, a_binding_pat, a_wild, a_rest, a_const, a_call, a_path, a_range, a_reference, a_mutable_reference, a_paren, a_tuple, a_slice, a_tuple_struct, a_struct, a_verbatim, Pat, PatIdent, PatRange, PatRangeBound, IsConstBlock, a_const_block, IsEnd, a_literal_end, a_path_end, a_const_end, IsPatPath, IsRange, without_end, without_start, with_both, IsStart, a_literal_start, a_path_start, a_const_start}
 use Rattle.token_core.specs.declared.tree.Literal.{Literal}
-use Rattle.token_core.specs.declared.tree.Punct.{Punct}
-use Rattle.token_core.specs.Reads.{Reader, is_done, sees_mark}
-use Rattle.token_core.specs.Spellings.{last_char, more_chars, IsLit, a_literal, a_bool, a_negative, is_mark, IsWord, is_word, AreLimits, half_open, closed, AreOldLimits, new_limits, old_limits}
 use Rattle.token_core.specs.Tokens as token
-use Rattle.token_core.specs.Toks.{Toks, word, mark, lit, group}
 use Rattle.token_core.proofs.Unseen.{no_mark-other}
-use Rattle.syn_path.specs.declared.mac.Macro.{Macro}
-use Rattle.syn_path.specs.declared.supplied.Place.{Place}
-use Rattle.syn_path.specs.mac.Spelling.{IsCall, a_macro}
 use Rattle.syn_attr.specs.attr.Attrs.{Attribute as Attr}
-use Rattle.syn_attr.specs.declared.expr.Expr.{Expr}
-use Rattle.syn_attr.specs.declared.expr.ExprConstOf.{ExprConstOf}
-use Rattle.syn_ty.specs.path.Spelling.{is_segment_word}
-use Rattle.syn_ty.specs.ty.Parts.{Manner, clearly}
-use Rattle.syn_ty.specs.ty.Spelling.{IsOptional, absent, present, Relation}
-use Rattle.syn_ty.specs.ty.Trees.{Path, QSelf}
 use Rattle.syn_ty.proofs.ty_laws.complete.Less.{call_less, group_less, less_less, less_no, listed_no, mark_no, mark_takes, no_less, no_no, same, some, word_takes}
 use Rattle.syn_ty.proofs.ty_laws.complete.Within.{Less, NoMore}
-use Rattle.syn_pat.specs.declared.place.PatPlace.{PatPlace}
-use Rattle.syn_pat.specs.declared.place.PatPlace.TheVariants.{Single}
-use Rattle.syn_pat.specs.pat.Admitted.{a_box, AreCases, cases, IsBinding, a_binding, IsPat, a_single, some_cases, one_after_vert, some_after_vert, IsSubpat, a_subpat, IsSingle, a_binding_pat, a_wild, a_rest, a_literal as a_literal_pat, a_const, a_call, a_path, a_range, a_reference, a_mutable_reference, a_paren, a_tuple, a_slice, a_tuple_struct, a_struct, a_verbatim}
-use Rattle.syn_pat.specs.pat.Pats.{Pat, PatIdent, PatRange, PatRangeBound}
-use Rattle.syn_pat.specs.pat.Spelling.{IsConstBlock, a_const_block, IsEnd, a_literal_end, a_path_end, a_const_end, IsPatPath, IsRange, without_end, without_start, with_both, IsStart, a_literal_start, a_path_start, a_const_start}
+use Rattle.syn_pat.specs.pat.Admitted.{a_literal as a_literal_pat}
 use Rattle.syn_pat.proofs.pat_laws.complete.Bindings.{head_less}
 use Rattle.syn_pat.proofs.pat_laws.complete.Calls.{call_is_path}
 use Rattle.syn_pat.proofs.pat_laws.complete.Names.{Opens, by_name, by_sep, by_lt}

@@ -1,10 +1,8 @@
 -- What stands at the front of a list is one thing: where one of a mark, a word, a group and the end is seen, no other is.
 use Rattle.std.proofs.Common.{◌≡◌, ℕ, ◌==◌, Bool, true, false, if◌then◌else◌, List, [], ◌∷◌, Option, Some, None, is_some, refl, ap}
-use Rattle.token_core.specs.declared.tree.Delimiter.{Delimiter}
-use Rattle.token_core.specs.declared.tree.Punct.{Punct}
+use Rattle.syn_pat.proofs.pat_laws.words.Tokens.{Delimiter, Punct, is_done, sees_group, sees_mark, sees_word, Bytes, Toks, done, word, mark, lit, group, enter, leave}
 use Rattle.token_core.specs.Front.{front}
-use Rattle.token_core.specs.Reads.{as_group, as_punct, as_word, group_meets, is_done, is_end, is_last, past_mark, past_next, sees_group, sees_mark, sees_word, word_meets}
-use Rattle.token_core.specs.Toks.{Bytes, Toks, done, word, mark, lit, group, enter, leave}
+use Rattle.token_core.specs.Reads.{as_group, as_punct, as_word, group_meets, is_end, is_last, past_mark, past_next, word_meets}
 
 -- ---- by the first token
 

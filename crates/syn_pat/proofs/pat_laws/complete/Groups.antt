@@ -2,40 +2,23 @@
 use Rattle.std.specs.Prelude.{not}
 use Rattle.std.proofs.Common.{◌≡◌, ℕ, ◌<◌, ◌≤◌, Bool, true, false, ◌&&◌, List, [], ◌∷◌, Option, None, Ok, refl, ◌∙◌, ap, arith}
 use Rattle.std.proofs.lemmas.Bool.{and_left}
-use Rattle.token_core.specs.declared.span.DelimSpan.{DelimSpan}
-use Rattle.token_core.specs.declared.span.Span.{Span}
-use Rattle.token_core.specs.declared.tree.Delimiter.{Delimiter}
-use Rattle.token_core.specs.declared.tree.Delimiter.TheVariants.{Parenthesis, Bracket}
+use Rattle.syn_pat.proofs.pat_laws.words.Tokens.{DelimSpan, Span, Delimiter, Parenthesis, Bracket, AreListed, Anywhere, none_left, last_value, value_and_mark, Many, listed, Reader, is_done, none, last_char, IsMark, is_mark, Scope, Toks, done, group}
+use Rattle.syn_pat.proofs.pat_laws.words.Paths.{Place}
+use Rattle.syn_pat.proofs.pat_laws.words.Forms.{at_end, before_end, list_from, ahead, comma}
+use Rattle.syn_pat.proofs.pat_laws.words.Types.{Manner, clearly, Relation, Comma}
+use Rattle.syn_pat.proofs.pat_laws.words.Patterns.{PatPlace, LeadingVert, Element, AreElements, is_tuple, Pat, is_rest, slice_of, Readers, elements, paren_content, paren_or_tuple, slice}
 use Rattle.token_core.specs.Groups as groups
-use Rattle.token_core.specs.Listed.{AreListed, Anywhere, none_left, last_value, value_and_mark}
-use Rattle.token_core.specs.Loops.{Many, listed}
-use Rattle.token_core.specs.Reads.{Reader, is_done}
-use Rattle.token_core.specs.Spans.{none}
-use Rattle.token_core.specs.Spellings.{last_char, IsMark, is_mark}
-use Rattle.token_core.specs.Stream.{Scope}
-use Rattle.token_core.specs.Toks.{Toks, done, group}
 use Rattle.token_core.proofs.MarkSpells.{mark_complete, mark_size}
 use Rattle.token_core.proofs.Steps.{Reads_to, chosen, link}
 use Rattle.token_core.proofs.Took.{at, leaves_none}
-use Rattle.syn_path.specs.declared.supplied.Place.{Place}
 use Rattle.syn_forms.specs.groups.Reading.{in_brackets, in_parens}
-use Rattle.syn_forms.specs.lists.Reading.{at_end, before_end, list_from}
-use Rattle.syn_forms.specs.nested.Below.{ahead}
-use Rattle.syn_forms.specs.tokens.Reading.{comma}
 use Rattle.syn_forms.proofs.groups_laws.Complete.{content, content_ahead, reads_inside}
 use Rattle.syn_forms.proofs.lists_laws.Complete.{listed_here}
-use Rattle.syn_ty.specs.ty.Parts.{Manner, clearly}
-use Rattle.syn_ty.specs.ty.Spelling.{Relation}
-use Rattle.syn_ty.specs.ty.Types.{Comma}
 use Rattle.syn_ty.proofs.ty_laws.complete.Leaves.{not_more}
 use Rattle.syn_ty.proofs.ty_laws.complete.Less.{less_no, mark_no, some}
 use Rattle.syn_pat.specs.declared.pat.PatOf.TheVariants as v
 use Rattle.syn_pat.specs.declared.pat.read.groups.InParens.TheVariants as held
-use Rattle.syn_pat.specs.declared.place.PatPlace.{PatPlace}
-use Rattle.syn_pat.specs.declared.place.PatPlace.TheVariants.{LeadingVert, Element}
-use Rattle.syn_pat.specs.pat.Admitted.{AreElements, is_tuple}
-use Rattle.syn_pat.specs.pat.Pats.{Pat, is_rest, paren_of, slice_of, tuple_of}
-use Rattle.syn_pat.specs.pat.Reading.{Readers, elements, paren_content, paren_or_tuple, slice}
+use Rattle.syn_pat.specs.pat.Pats.{paren_of, tuple_of}
 use Rattle.syn_pat.proofs.pat_laws.complete.Within.{EndsIn, Meets, comma_in, end_in}
 
 -- ---- the end of a group

@@ -1,27 +1,19 @@
 -- The read of patterns, tied, is complete: at every height of a pattern, what a list spells clearly is what it answers, and it takes no more; and so is the read of one with a guard and of one with a type.
-use Rattle.syn_pat.specs.pat.Reading.{type_names}
 use Rattle.std.proofs.Common.{◌≡◌, ℕ, zero, suc, ◌≤◌, true, false, Option, None, Ok, refl, ◌∙◌, arith}
-use Rattle.token_core.specs.declared.span.Span.{Span}
-use Rattle.token_core.specs.Reads.{Reader, is_done, leaves, sees_word}
-use Rattle.token_core.specs.Stream.{Scope, Stream}
+use Rattle.syn_pat.proofs.pat_laws.words.Tokens.{Span, Reader, is_done, leaves, sees_word, Scope, Stream, Toks, done}
+use Rattle.syn_pat.proofs.pat_laws.words.Paths.{Place}
+use Rattle.syn_pat.proofs.pat_laws.words.Forms.{ahead}
+use Rattle.syn_pat.proofs.pat_laws.words.Types.{clearly}
+use Rattle.syn_pat.proofs.pat_laws.words.Patterns.{type_names, PatPlace, Single, LeadingVert, IsPat, pat, Pat, PatType, SpellsGuarded, without_guard, with_guard, SpellsPat, SpellsPatType, a_pat_type, pats_to}
 use Rattle.token_core.specs.Tokens as token
-use Rattle.token_core.specs.Toks.{Toks, done}
 use Rattle.token_core.proofs.MarkSpells.{mark_complete}
 use Rattle.token_core.proofs.Steps.{Reads_to, chosen, link}
 use Rattle.token_core.proofs.Took.{at, leaves_none}
 use Rattle.token_core.proofs.WordSpells.{word_complete, word_seen}
 use Rattle.syn_path.proofs.Words.{uses_none}
-use Rattle.syn_path.specs.declared.supplied.Place.{Place}
-use Rattle.syn_forms.specs.nested.Below.{ahead}
-use Rattle.syn_ty.specs.ty.Parts.{clearly}
 use Rattle.syn_ty.proofs.ty_laws.complete.Knot.{below_met}
 use Rattle.syn_ty.proofs.ty_laws.complete.Within.{Less}
-use Rattle.syn_pat.specs.declared.place.PatPlace.{PatPlace}
-use Rattle.syn_pat.specs.declared.place.PatPlace.TheVariants.{Single, LeadingVert}
-use Rattle.syn_pat.specs.pat.Admitted.{IsPat}
-use Rattle.syn_pat.specs.pat.Knot.{guard_after, guarded, pat, pats_below, typed, typed_over}
-use Rattle.syn_pat.specs.pat.Pats.{Pat, PatType}
-use Rattle.syn_pat.specs.pat.Spelt.{SpellsGuarded, without_guard, with_guard, SpellsPat, SpellsPatType, a_pat_type, pats_to}
+use Rattle.syn_pat.specs.pat.Knot.{guard_after, guarded, pats_below, typed, typed_over}
 use Rattle.syn_pat.proofs.pat_laws.complete.Cases.{turn_met}
 use Rattle.syn_pat.proofs.pat_laws.complete.Firsts.{pat_less, pat_there}
 use Rattle.syn_pat.proofs.pat_laws.Knot.{turn}

@@ -1,27 +1,19 @@
 -- What begins with a path is read as one: a path that is no lone word that a pattern binds, and one before a group, a macro call or `..`.
 use Rattle.std.proofs.Common.{◌≡◌, ◌⊎◌, ◌&&◌, ◌||◌, Bool, true, false, if◌then◌else◌, List, Option, Some, None, inl, inr, refl, sym, ◌∙◌, ap}
 use Rattle.std.proofs.lemmas.Slice.Eq.{bytes_eq-Decides}
-use Rattle.token_core.specs.declared.tree.Delimiter.TheVariants.{Brace, Parenthesis}
-use Rattle.token_core.specs.declared.tree.Ident.{Ident}
-use Rattle.token_core.specs.Listed.{none_left, last_value, value_and_mark}
-use Rattle.token_core.specs.Reads.{after_one, is_ident, is_text, sees_group, sees_mark, sees_word}
-use Rattle.token_core.specs.Spellings.{IsMark}
+use Rattle.syn_pat.proofs.pat_laws.words.Tokens.{Brace, Parenthesis, Ident, none_left, last_value, value_and_mark, after_one, is_ident, is_text, sees_group, sees_mark, sees_word, IsMark, Bytes, Toks, word}
+use Rattle.syn_pat.proofs.pat_laws.words.Paths.{is_mod_word}
+use Rattle.syn_pat.proofs.pat_laws.words.Types.{is_segment_word, AreSegments, IsAnyPath, qualified, unqualified, by_type, by_type_as_path, IsPath, a_path, a_word, a_word_with_arguments, Sep, Manner, clearly, Parts, absent, present, Path, PathSegment, QSelf}
+use Rattle.syn_pat.proofs.pat_laws.words.Patterns.{begins_path, sees_named_path, sees_self_path, is_binding, is_binding_name, is_self, lone_word}
 use Rattle.token_core.specs.Tokens as token
-use Rattle.token_core.specs.Toks.{Bytes, Toks, word}
 use Rattle.token_core.proofs.MarkSpells.{mark_seen}
 use Rattle.token_core.proofs.Took.{seen_word}
 use Rattle.syn_path.specs.declared.path.PathStyle.TheVariants.{Expr as expressions}
-use Rattle.syn_path.specs.path.Spelling.{is_mod_word}
 use Rattle.syn_forms.specs.paths.Reading.{is_named_word}
-use Rattle.syn_ty.specs.path.Spelling.{is_segment_word, AreSegments, IsAnyPath, qualified, unqualified, IsQualified, by_type, by_type_as_path, IsPath, a_path, a_word, a_word_with_arguments}
-use Rattle.syn_ty.specs.path.Paths.{Sep, path_of}
+use Rattle.syn_ty.specs.path.Spelling.{IsQualified}
+use Rattle.syn_ty.specs.path.Paths.{path_of}
 use Rattle.syn_ty.specs.path.Silent as silent
-use Rattle.syn_ty.specs.ty.Parts.{Manner, clearly, Parts}
-use Rattle.syn_ty.specs.ty.Spelling.{absent, present}
-use Rattle.syn_ty.specs.ty.Trees.{Path, PathSegment, QSelf}
 use Rattle.syn_ty.proofs.ty_laws.complete.Tokens.{mod_segment}
-use Rattle.syn_pat.specs.pat.Reading.{begins_path, sees_named_path, sees_self_path}
-use Rattle.syn_pat.specs.pat.Spelling.{is_binding, is_binding_name, is_self, lone_word}
 
 -- ---- words
 

@@ -1,20 +1,15 @@
 -- A const block, a bound of a range and a range that a list spells clearly are what their reads answer, where what follows does not go on with them.
 use Rattle.std.specs.Prelude.{is_some}
 use Rattle.std.proofs.Common.{◌≡◌, Bool, true, false, not, ◌&&◌, ◌||◌, if◌then◌else◌, [], Option, Some, None, Ok, refl, ◌∙◌, ap}
-use Rattle.token_core.specs.declared.lit.Lit.{Lit}
-use Rattle.token_core.specs.declared.range.RangeLimits.{RangeLimits}
+use Rattle.syn_pat.proofs.pat_laws.words.Tokens.{Lit, RangeLimits, Span, Brace, Ident, is_keyword, sees_lit, Reader, is_done, is_text, sees_mark, sees_word, last_char, more_chars, IsLit, a_literal, a_bool, a_negative, IsMark, is_mark, IsWord, is_word, AreLimits, half_open, closed, AreOldLimits, new_limits, old_limits, Scope, Stream, Toks, word, group}
+use Rattle.syn_pat.proofs.pat_laws.words.Paths.{Place, Block, is_mod_word}
+use Rattle.syn_pat.proofs.pat_laws.words.Attributes.{lit_of, Expr, ExprConstOf}
+use Rattle.syn_pat.proofs.pat_laws.words.Types.{clearly, Path, QSelf, TypeTree}
+use Rattle.syn_pat.proofs.pat_laws.words.Patterns.{Pat, PatRangeBound, pat_range_of, path_pat_of, rest_of, after_bound, bound_or_range, ends_range, range_after, sees_bound_path, sees_half_open, type_names, IsConstBlock, a_const_block, IsPatPath, a_pat_path, IsEnd, a_literal_end, a_path_end, a_const_end}
 use Rattle.token_core.specs.declared.range.RangeLimits.TheVariants as limits
-use Rattle.token_core.specs.declared.span.Span.{Span}
-use Rattle.token_core.specs.declared.tree.Delimiter.TheVariants.{Brace}
-use Rattle.token_core.specs.declared.tree.Ident.{Ident}
 use Rattle.token_core.specs.Groups as groups
-use Rattle.token_core.specs.Keywords.{is_keyword}
-use Rattle.token_core.specs.Lits.{false_text, sees_lit, true_text}
-use Rattle.token_core.specs.Reads.{Reader, is_done, is_text, sees_mark, sees_word}
-use Rattle.token_core.specs.Spellings.{last_char, more_chars, IsLit, a_literal, a_bool, a_negative, IsMark, is_mark, IsWord, is_word, AreLimits, half_open, closed, AreOldLimits, new_limits, old_limits}
-use Rattle.token_core.specs.Stream.{Scope, Stream}
+use Rattle.token_core.specs.Lits.{false_text, true_text}
 use Rattle.token_core.specs.Tokens as token
-use Rattle.token_core.specs.Toks.{Toks, word, group}
 use Rattle.token_core.proofs.LimitSpells.{limits_complete, old_limits_complete}
 use Rattle.token_core.proofs.LitSpells.{lit_complete, lit_seen}
 use Rattle.token_core.proofs.MarkSpells.{mark_seen}
@@ -23,20 +18,11 @@ use Rattle.token_core.proofs.Took.{at}
 use Rattle.token_core.proofs.Unseen.{dots_apart}
 use Rattle.token_core.proofs.WordSpells.{word_complete, word_seen}
 use Rattle.syn_path.proofs.Words.{uses_none}
-use Rattle.syn_path.specs.declared.supplied.Place.{Place}
-use Rattle.syn_path.specs.declared.supplied.Place.TheVariants.{Block}
-use Rattle.syn_path.specs.path.Spelling.{is_mod_word}
-use Rattle.syn_attr.specs.attr.Attrs.{Attribute as Attr, lit_of}
-use Rattle.syn_attr.specs.declared.expr.Expr.{Expr}
-use Rattle.syn_attr.specs.declared.expr.ExprConstOf.{ExprConstOf}
+use Rattle.syn_attr.specs.attr.Attrs.{Attribute as Attr}
 use Rattle.syn_forms.proofs.groups_laws.Complete.{content, reads_inside}
-use Rattle.syn_ty.specs.ty.Parts.{clearly}
-use Rattle.syn_ty.specs.ty.Trees.{Path, QSelf, TypeTree}
 use Rattle.syn_pat.specs.declared.pat.PatOf.TheVariants as v
 use Rattle.syn_pat.specs.declared.pat.PatRangeBoundOf.TheVariants as b
-use Rattle.syn_pat.specs.pat.Pats.{Pat, PatRangeBound, pat_range_of, path_pat_of, rest_of}
-use Rattle.syn_pat.specs.pat.Reading.{after_bound, body, bound, bound_as_pat, bound_or_range, const_block, ended, ends_range, half_open as read_half_open, optional_bound, range, range_after, sees_bound_path, sees_half_open, type_names}
-use Rattle.syn_pat.specs.pat.Spelling.{IsConstBlock, a_const_block, IsPatPath, a_pat_path, IsEnd, a_literal_end, a_path_end, a_const_end}
+use Rattle.syn_pat.specs.pat.Reading.{body, bound, bound_as_pat, const_block, ended, half_open as read_half_open, optional_bound, range}
 use Rattle.syn_pat.proofs.pat_laws.complete.Names.{Opens, by_name, by_sep, by_lt, any_opens, not_mod}
 use Rattle.syn_pat.proofs.pat_laws.complete.Within.{SuppliedMeets}
 

@@ -1,30 +1,19 @@
 -- A single pattern that a list spells clearly is what its read answers, over the reads of the patterns within, where nothing follows that a pattern goes on with.
 use Rattle.std.proofs.Common.{◌≡◌, ℕ, ◌≤◌, Bool, true, false, ◌||◌, [], ◌∷◌, Option, None, refl, arith}
 use Rattle.std.proofs.lemmas.Bool.{or_from}
+use Rattle.syn_pat.proofs.pat_laws.words.Tokens.{Span, Brace, Parenthesis, Reader, sees_group, sees_mark, IsWord, half_open, new_limits, Scope, Toks, mark, group, TokenStream, punct}
+use Rattle.syn_pat.proofs.pat_laws.words.Paths.{Macro, Place, IsCall, a_macro, lone_ident}
+use Rattle.syn_pat.proofs.pat_laws.words.Forms.{ahead}
+use Rattle.syn_pat.proofs.pat_laws.words.Attributes.{expr_macro_of, Expr}
+use Rattle.syn_pat.proofs.pat_laws.words.Types.{is_segment_word, Manner, clearly, Holds, IsOptional, absent, present, Relation, Path, QSelf}
+use Rattle.syn_pat.proofs.pat_laws.words.Patterns.{PatPlace, Single, a_box, IsBinding, a_binding, IsSubpat, a_subpat, IsSingle, a_binding_pat, a_wild, a_rest, a_literal, a_const, a_call, a_path, a_range, a_reference, a_mutable_reference, a_paren, a_tuple, a_slice, a_tuple_struct, a_struct, a_verbatim, Pat, PatIdent, PatRange, PatRangeBound, path_pat_of, Readers, after_path, begins_path, box_pat, path_pat, range_after, single, type_names, a_const_block, IsPatPath, a_pat_path, IsRange, without_end, without_start, with_both, IsStart, a_literal_start, a_path_start, a_const_start, is_binding, is_self, lone_word}
 use Rattle.token_core.specs.declared.range.RangeLimits.TheVariants as limits
-use Rattle.token_core.specs.declared.span.Span.{Span}
-use Rattle.token_core.specs.declared.tree.Delimiter.TheVariants.{Brace, Parenthesis}
-use Rattle.token_core.specs.Reads.{Reader, sees_group, sees_mark}
-use Rattle.token_core.specs.Spellings.{IsWord, half_open, new_limits}
-use Rattle.token_core.specs.Stream.{Scope}
 use Rattle.token_core.specs.Tokens as token
-use Rattle.token_core.specs.Toks.{Toks, mark, group}
-use Rattle.token_core.specs.Trees.{TokenStream, punct}
 use Rattle.token_core.proofs.MarkSpells.{mark_seen}
 use Rattle.token_core.proofs.Steps.{Reads_to, link}
 use Rattle.token_core.proofs.Took.{at}
 use Rattle.token_core.proofs.WordSpells.{word_complete}
-use Rattle.syn_path.specs.declared.mac.Macro.{Macro}
-use Rattle.syn_path.specs.declared.supplied.Place.{Place}
-use Rattle.syn_path.specs.mac.Spelling.{IsCall, a_macro}
-use Rattle.syn_path.specs.path.Paths.{lone_ident}
-use Rattle.syn_attr.specs.attr.Attrs.{Attribute as Attr, expr_macro_of}
-use Rattle.syn_attr.specs.declared.expr.Expr.{Expr}
-use Rattle.syn_forms.specs.nested.Below.{ahead}
-use Rattle.syn_ty.specs.path.Spelling.{is_segment_word}
-use Rattle.syn_ty.specs.ty.Parts.{Manner, clearly, Holds}
-use Rattle.syn_ty.specs.ty.Spelling.{IsOptional, absent, present, Relation}
-use Rattle.syn_ty.specs.ty.Trees.{Path, QSelf}
+use Rattle.syn_attr.specs.attr.Attrs.{Attribute as Attr}
 use Rattle.syn_ty.proofs.ty_laws.complete.Calls.{as_path}
 use Rattle.syn_ty.proofs.ty_laws.complete.Capture.{since_met}
 use Rattle.syn_ty.proofs.ty_laws.complete.Leaves.{later}
@@ -32,12 +21,6 @@ use Rattle.syn_ty.proofs.ty_laws.complete.Less.{word_takes}
 use Rattle.syn_ty.proofs.ty_laws.complete.Tokens.{other_mark}
 use Rattle.syn_pat.specs.declared.pat.PatOf.TheVariants as v
 use Rattle.syn_pat.specs.declared.pat.PatRangeBoundOf.TheVariants as b
-use Rattle.syn_pat.specs.declared.place.PatPlace.{PatPlace}
-use Rattle.syn_pat.specs.declared.place.PatPlace.TheVariants.{Single}
-use Rattle.syn_pat.specs.pat.Admitted.{a_box, IsBinding, a_binding, IsSubpat, a_subpat, IsSingle, a_binding_pat, a_wild, a_rest, a_literal, a_const, a_call, a_path, a_range, a_reference, a_mutable_reference, a_paren, a_tuple, a_slice, a_tuple_struct, a_struct, a_verbatim}
-use Rattle.syn_pat.specs.pat.Pats.{Pat, PatIdent, PatRange, PatRangeBound, path_pat_of}
-use Rattle.syn_pat.specs.pat.Reading.{Readers, after_path, begins_path, box_pat, path_pat, range_after, single, type_names}
-use Rattle.syn_pat.specs.pat.Spelling.{a_const_block, IsPatPath, a_pat_path, IsRange, without_end, without_start, with_both, IsStart, a_literal_start, a_path_start, a_const_start, is_binding, is_self, lone_word}
 use Rattle.syn_pat.proofs.pat_laws.complete.Bindings.{binding_met, mutable_reference_met, reference_met, wild_met}
 use Rattle.syn_pat.proofs.pat_laws.complete.Calls.{bang_no_sep, bound_goes, call_begins, call_goes, call_is_path, group_no_sep, struct_goes, tuple_struct_goes}
 use Rattle.syn_pat.proofs.pat_laws.complete.Fronts.{mark_apart}

@@ -1,37 +1,22 @@
 -- What the braces of a struct spell clearly is what is read in them: fields joined by commas, and perhaps `..` at the end.
 use Rattle.std.proofs.Common.{◌≡◌, ℕ, zero, suc, ◌<◌, ◌≤◌, Bool, true, false, List, [], ◌∷◌, Option, Some, None, inl, inr, refl, ◌∙◌, ap, sym, arith}
-use Rattle.token_core.specs.declared.span.DelimSpan.{DelimSpan}
-use Rattle.token_core.specs.declared.span.Span.{Span}
-use Rattle.token_core.specs.declared.tree.Delimiter.TheVariants.{Brace}
+use Rattle.syn_pat.proofs.pat_laws.words.Tokens.{DelimSpan, Span, Brace, AreListed, Anywhere, none_left, last_value, value_and_mark, Many, size, Reader, is_done, sees_mark, none, more_chars, last_char, IsMark, is_mark, Scope, Toks, done, group}
+use Rattle.syn_pat.proofs.pat_laws.words.Paths.{Place}
+use Rattle.syn_pat.proofs.pat_laws.words.Forms.{ahead}
+use Rattle.syn_pat.proofs.pat_laws.words.Attributes.{Expr}
+use Rattle.syn_pat.proofs.pat_laws.words.Types.{Manner, clearly, AreMarked, no_further, one_further, Relation, Path, QSelf, Comma}
+use Rattle.syn_pat.proofs.pat_laws.words.Patterns.{PatPlace, AreFields, fields_alone, fields_and_rest, IsField, Attrs, FieldPat, Pat, PatRest, rest_of, struct_of, Fields, Readers, fields, fields_from, no_fields, one_field, put_field, outer_spelt}
 use Rattle.token_core.specs.Groups as groups
-use Rattle.token_core.specs.Listed.{AreListed, Anywhere, none_left, last_value, value_and_mark}
-use Rattle.token_core.specs.Loops.{Many, size}
-use Rattle.token_core.specs.Reads.{Reader, is_done, sees_mark}
-use Rattle.token_core.specs.Spans.{none}
-use Rattle.token_core.specs.Spellings.{more_chars, last_char, IsMark, is_mark}
-use Rattle.token_core.specs.Stream.{Scope}
 use Rattle.token_core.specs.Tokens as token
-use Rattle.token_core.specs.Toks.{Toks, done, group}
 use Rattle.token_core.proofs.MarkSpells.{mark_complete, mark_seen}
 use Rattle.token_core.proofs.Steps.{Reads_to, chosen, link}
 use Rattle.token_core.proofs.Took.{at, leaves_none}
-use Rattle.syn_path.specs.declared.supplied.Place.{Place}
 use Rattle.syn_attr.specs.attr.Attrs.{Attribute as Attr}
-use Rattle.syn_attr.specs.declared.expr.Expr.{Expr}
-use Rattle.syn_forms.specs.nested.Below.{ahead}
 use Rattle.syn_forms.proofs.groups_laws.Complete.{content, reads_inside}
-use Rattle.syn_ty.specs.ty.Parts.{Manner, clearly, AreMarked, no_further, one_further}
-use Rattle.syn_ty.specs.ty.Spelling.{Relation}
-use Rattle.syn_ty.specs.ty.Trees.{Path, QSelf}
-use Rattle.syn_ty.specs.ty.Types.{Comma}
 use Rattle.syn_ty.proofs.ty_laws.complete.Leaves.{not_more}
 use Rattle.syn_ty.proofs.ty_laws.complete.Less.{less_no, mark_no, no_less, some}
 use Rattle.syn_ty.proofs.ty_laws.complete.Within.{Less}
-use Rattle.syn_pat.specs.declared.place.PatPlace.{PatPlace}
-use Rattle.syn_pat.specs.pat.Admitted.{AreFields, fields_alone, fields_and_rest, IsField}
-use Rattle.syn_pat.specs.pat.Pats.{Attrs, FieldPat, Pat, PatRest, rest_of, struct_of}
-use Rattle.syn_pat.specs.pat.Reading.{Fields, Readers, fields, fields_from, no_fields, one_field, put_field, struct_after}
-use Rattle.syn_pat.specs.pat.Spelling.{outer_spelt}
+use Rattle.syn_pat.specs.pat.Reading.{struct_after}
 use Rattle.syn_pat.proofs.pat_laws.complete.Fields.{IsRead, comma_field, end_field, field_met}
 use Rattle.syn_pat.proofs.pat_laws.complete.Fronts.{done_no_mark}
 use Rattle.syn_pat.proofs.pat_laws.complete.Groups.{all_done, comma_met, comma_there, inside_less}

@@ -1,28 +1,16 @@
 -- A single pattern is read by its first tokens: each form by the tests that see it, and by none that come before.
 use Rattle.std.proofs.Common.{◌≡◌, Bool, true, false, ◌&&◌, ◌||◌, [], Option, refl, ◌∙◌}
 use Rattle.std.proofs.lemmas.Bool.{or_from}
-use Rattle.token_core.specs.declared.lit.Lit.{Lit}
-use Rattle.token_core.specs.declared.range.RangeLimits.{RangeLimits}
-use Rattle.token_core.specs.declared.span.DelimSpan.{DelimSpan}
-use Rattle.token_core.specs.declared.span.Span.{Span}
-use Rattle.token_core.specs.declared.tree.Delimiter.TheVariants.{Bracket, Parenthesis}
-use Rattle.token_core.specs.declared.tree.Ident.{Ident}
-use Rattle.token_core.specs.Keywords.{is_keyword}
-use Rattle.token_core.specs.Lits.{false_text, sees_lit, true_text}
-use Rattle.token_core.specs.Marks.{text_of}
-use Rattle.token_core.specs.Reads.{Reader, is_ident, is_text, sees_group, sees_mark, sees_word}
-use Rattle.token_core.specs.Spellings.{last_char, more_chars, IsLit, a_literal, a_bool, a_negative, IsMark, is_mark, IsWord, is_word, AreLimits, half_open, closed}
-use Rattle.token_core.specs.Stream.{Scope}
+use Rattle.syn_pat.proofs.pat_laws.words.Tokens.{Lit, RangeLimits, DelimSpan, Span, Bracket, Parenthesis, Ident, is_keyword, sees_lit, text_of, Reader, is_ident, is_text, sees_group, sees_mark, sees_word, last_char, more_chars, IsLit, a_literal, a_bool, a_negative, IsMark, is_mark, IsWord, is_word, AreLimits, half_open, closed, Scope, Toks, word, group}
+use Rattle.syn_pat.proofs.pat_laws.words.Paths.{Place}
+use Rattle.syn_pat.proofs.pat_laws.words.Types.{IsOptional, absent, present}
+use Rattle.syn_pat.proofs.pat_laws.words.Patterns.{Pat, PatIdent, PatReference, PatSlice, wild_of, Readers, begins_bound, begins_path, binding, bound_or_range, box_pat, paren_or_tuple, path_pat, reference, sees_half_open, sees_named_path, sees_self_path, single, slice, type_names, is_binding_name}
+use Rattle.token_core.specs.Lits.{false_text, true_text}
 use Rattle.token_core.specs.Tokens as token
-use Rattle.token_core.specs.Toks.{Toks, word, group}
 use Rattle.token_core.proofs.Steps.{Reads_to, chosen, link}
 use Rattle.token_core.proofs.Took.{at, seen_word}
-use Rattle.syn_path.specs.declared.supplied.Place.{Place}
-use Rattle.syn_ty.specs.ty.Spelling.{IsOptional, absent, present}
 use Rattle.syn_pat.specs.declared.pat.PatOf.TheVariants as v
-use Rattle.syn_pat.specs.pat.Pats.{Pat, PatIdent, PatReference, PatSlice, wild_of}
-use Rattle.syn_pat.specs.pat.Reading.{Readers, begins_binding, begins_bound, begins_path, binding, bound_or_range, box_pat, by_mark, by_word, half_open as read_half_open, paren_or_tuple, path_pat, reference, sees_half_open, sees_named_path, sees_self_path, single, slice, wild, type_names}
-use Rattle.syn_pat.specs.pat.Spelling.{is_binding_name}
+use Rattle.syn_pat.specs.pat.Reading.{begins_binding, by_mark, by_word, half_open as read_half_open, wild}
 use Rattle.syn_pat.proofs.pat_laws.complete.Names.{Behind, not_bound, word_tested}
 use Rattle.syn_pat.proofs.pat_laws.complete.Ranges.{limits_seen, word_no_lit}
 

@@ -1,23 +1,17 @@
 -- Over what types ask of attributes and expressions, and over the law of a supplied subtree, each whole read of a pattern, of a pattern with a guard and of one with a type is complete.
 use Rattle.std.proofs.Common.{◌≡◌, ℕ, zero, suc, false, Option, Ok, refl}
 use Rattle.std.proofs.lemmas.Bool.{and_left}
-use Rattle.token_core.specs.declared.span.Span.{Span}
-use Rattle.token_core.specs.Reads.{Reader, sees_mark}
-use Rattle.token_core.specs.Stream.{Scope, Stream}
+use Rattle.syn_pat.proofs.pat_laws.words.Tokens.{Span, Reader, sees_mark, Scope, Stream, Toks, done}
+use Rattle.syn_pat.proofs.pat_laws.words.Paths.{Place, Block, Guard, UsesUp}
+use Rattle.syn_pat.proofs.pat_laws.words.Forms.{Plus, goes_on}
+use Rattle.syn_pat.proofs.pat_laws.words.Attributes.{outer, Expr}
+use Rattle.syn_pat.proofs.pat_laws.words.Types.{clearly, End, Path, QSelf, TypeTree}
+use Rattle.syn_pat.proofs.pat_laws.words.Patterns.{PatPlace, qpath, values, type_names, IsPatPath, a_pat_path, outer_spelt, types_to, values_spelt, SpellsGuarded, SpellsPat, SpellsPatType}
 use Rattle.token_core.specs.Tokens as token
-use Rattle.token_core.specs.Toks.{Toks, done}
 use Rattle.token_core.proofs.Steps.{Reads_to}
 use Rattle.syn_path.specs.declared.path.PathStyle.TheVariants.{Expr as expressions}
-use Rattle.syn_path.specs.declared.supplied.Place.{Place}
-use Rattle.syn_path.specs.declared.supplied.Place.TheVariants.{Block, Guard}
-use Rattle.syn_path.specs.Supplied.{UsesUp}
 use Rattle.syn_attr.specs.attr.Attrs.{Attribute as Attr}
-use Rattle.syn_attr.specs.attr.Reading.{outer}
-use Rattle.syn_attr.specs.declared.expr.Expr.{Expr}
-use Rattle.syn_forms.specs.declared.places.TypePlace.TheVariants.{Plus}
-use Rattle.syn_forms.specs.paths.Reading.{goes_on, sees_turbofish}
-use Rattle.syn_ty.specs.ty.Parts.{clearly, End}
-use Rattle.syn_ty.specs.ty.Trees.{Path, QSelf, TypeTree}
+use Rattle.syn_forms.specs.paths.Reading.{sees_turbofish}
 use Rattle.syn_ty.proofs.ty_laws.complete.Alone.{maybe_qualified_met, ty_met}
 use Rattle.syn_ty.proofs.ty_laws.complete.Bound.{done_fits}
 use Rattle.syn_ty.proofs.ty_laws.complete.FirstPaths.{any_path_starts}
@@ -25,11 +19,7 @@ use Rattle.syn_ty.proofs.ty_laws.complete.Firsts.{starts_to}
 use Rattle.syn_ty.proofs.ty_laws.complete.Knot.{GivenMeets, given_begins}
 use Rattle.syn_ty.proofs.ty_laws.complete.Within.{Less, PathStops}
 use Rattle.syn_ty.proofs.ty_laws.complete.Whole.{Whole}
-use Rattle.syn_pat.specs.declared.place.PatPlace.{PatPlace}
 use Rattle.syn_pat.specs.pat.Knot as knot
-use Rattle.syn_pat.specs.pat.Reading.{qpath, values, type_names}
-use Rattle.syn_pat.specs.pat.Spelling.{IsPatPath, a_pat_path, outer_spelt, types_to, values_spelt}
-use Rattle.syn_pat.specs.pat.Spelt.{SpellsGuarded, SpellsPat, SpellsPatType}
 use Rattle.syn_pat.proofs.pat_laws.complete.Knot as met
 use Rattle.syn_pat.proofs.pat_laws.complete.Within.{SuppliedMeets}
 

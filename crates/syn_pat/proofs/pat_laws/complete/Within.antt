@@ -1,39 +1,25 @@
 -- What is known of the reads that a pattern holds: where a list spells a tree clearly and what follows does not go on with it, the read answers that tree and takes no more; and the same of paths, types, attributes and supplied subtrees.
 use Rattle.std.proofs.Common.{◌≡◌, ◌⊎◌, ℕ, ◌<◌, ◌==◌, Bool, true, false, not, ◌&&◌, ◌||◌, List, [], ◌∷◌, Option, Ok, inl, inr, refl, ◌∙◌, ap}
 use Rattle.std.proofs.lemmas.Bool.{and_left, and_parts, not-true, or_cases}
-use Rattle.token_core.specs.declared.span.Span.{Span}
-use Rattle.token_core.specs.declared.tree.Delimiter.TheVariants.{Parenthesis, Brace}
-use Rattle.token_core.specs.Reads.{Reader, is_done, sees_group, sees_mark, sees_word}
-use Rattle.token_core.specs.Spellings.{last_char, IsMark, is_mark, IsWord, is_word}
-use Rattle.token_core.specs.Stream.{Scope, Stream}
+use Rattle.syn_pat.proofs.pat_laws.words.Tokens.{Span, Parenthesis, Brace, Reader, is_done, sees_group, sees_mark, sees_word, last_char, IsMark, is_mark, IsWord, is_word, Scope, Stream, Bytes, Toks, done}
+use Rattle.syn_pat.proofs.pat_laws.words.Paths.{Place, Block, Guard, UsesUp}
+use Rattle.syn_pat.proofs.pat_laws.words.Forms.{Plus, ahead}
+use Rattle.syn_pat.proofs.pat_laws.words.Attributes.{outer, Expr}
+use Rattle.syn_pat.proofs.pat_laws.words.Types.{Manner, clearly, End, Relation, Path, QSelf, TypeTree}
+use Rattle.syn_pat.proofs.pat_laws.words.Patterns.{PatPlace, Single, Attrs, Pat, Readers, ends_range, qpath, sees_vert, IsPatPath, outer_spelt, types_to}
 use Rattle.token_core.specs.Tokens as token
-use Rattle.token_core.specs.Toks.{Bytes, Toks, done}
 use Rattle.token_core.proofs.MarkSpells.{mark_seen}
 use Rattle.token_core.proofs.Steps.{Reads_to}
 use Rattle.token_core.proofs.Took.{at}
 use Rattle.token_core.proofs.Unseen.{colon_apart, or_apart, or_no_eq, word_no_mark}
 use Rattle.token_core.proofs.WordSpells.{word_seen}
-use Rattle.syn_path.specs.declared.supplied.Place.{Place}
-use Rattle.syn_path.specs.declared.supplied.Place.TheVariants.{Block, Guard}
-use Rattle.syn_path.specs.Supplied.{UsesUp}
 use Rattle.syn_attr.specs.attr.Attrs.{Attribute as Attr}
-use Rattle.syn_attr.specs.attr.Reading.{outer}
-use Rattle.syn_attr.specs.declared.expr.Expr.{Expr}
-use Rattle.syn_forms.specs.declared.places.TypePlace.TheVariants.{Plus}
-use Rattle.syn_forms.specs.nested.Below.{ahead}
-use Rattle.syn_ty.specs.ty.Parts.{Manner, clearly, End}
-use Rattle.syn_ty.specs.ty.Spelling.{Relation}
-use Rattle.syn_ty.specs.ty.Trees.{Path, QSelf, TypeTree}
 use Rattle.syn_ty.proofs.ty_laws.complete.Within.{Less, NoMore}
 use Rattle.syn_ty.proofs.ty_laws.complete.Tokens.{other_mark}
-use Rattle.syn_pat.specs.declared.place.PatPlace.{PatPlace}
-use Rattle.syn_pat.specs.declared.place.PatPlace.TheVariants.{Single}
 use Rattle.syn_pat.specs.pat.Admitted.{allows_cases}
 use Rattle.syn_pat.proofs.pat_laws.sound.Within.{Stops}
 use Rattle.syn_pat.specs.pat.Knot as knot
-use Rattle.syn_pat.specs.pat.Pats.{Attrs, Pat}
-use Rattle.syn_pat.specs.pat.Reading.{Readers, ends_range, qpath, sees_lone_colon, sees_vert}
-use Rattle.syn_pat.specs.pat.Spelling.{IsPatPath, outer_spelt, types_to}
+use Rattle.syn_pat.specs.pat.Reading.{sees_lone_colon}
 use Rattle.syn_pat.proofs.pat_laws.complete.Fronts.{done_no_group, done_no_mark, mark_apart, no_longer, word_apart}
 
 -- ---- what may follow

@@ -1,45 +1,24 @@
 -- Whether a pattern begins with `mut` is told by its tree, and so is whether it is a range that lacks an end: both stay in its normal form.
 use Rattle.std.proofs.Common.{◌≡◌, Bool, true, false, not, ◌||◌, if◌then◌else◌, is_some, List, Option, Some, None, refl, sym, ◌∙◌, ap}
-use Rattle.token_core.specs.declared.lit.Lit.{Lit}
-use Rattle.token_core.specs.declared.range.RangeLimits.{RangeLimits}
-use Rattle.token_core.specs.declared.tree.Ident.{Ident}
-use Rattle.token_core.specs.declared.tree.Spacing.TheVariants.{Joint}
-use Rattle.token_core.specs.Keywords.{is_keyword}
-use Rattle.token_core.specs.Listed.{AreListed, none_left, last_value, value_and_mark, Nowhere}
-use Rattle.token_core.specs.Marks.{text_of}
-use Rattle.token_core.specs.Reads.{is_done, is_text, sees_word}
-use Rattle.token_core.specs.Spellings.{last_char, more_chars, IsLit, a_literal, a_bool, a_negative, IsMark, is_mark, is_word, AreLimits, half_open, closed}
+use Rattle.syn_pat.proofs.pat_laws.words.Tokens.{Lit, RangeLimits, Ident, Joint, is_keyword, AreListed, none_left, last_value, value_and_mark, Nowhere, text_of, is_done, is_text, sees_word, last_char, more_chars, IsLit, a_literal, a_bool, a_negative, IsMark, is_mark, is_word, AreLimits, half_open, closed, Bytes, Toks, done, word, mark, group, TokenStream, punct, row, trees}
+use Rattle.syn_pat.proofs.pat_laws.words.Paths.{Macro, PathStyle, Place, IsCall, a_macro, ModPath, nothing, IsBarePath, a_bare_path, no_leading, leading, last_segment, more_segments}
+use Rattle.syn_pat.proofs.pat_laws.words.Attributes.{Expr, ExprConstOf}
+use Rattle.syn_pat.proofs.pat_laws.words.Types.{Sep, is_segment_word, IsAnyPath, unqualified, qualified, by_type, by_type_as_path, IsSegment, a_word, a_word_with_arguments, Manner, loosely, plainly, clearly, IsVerbatim, Parts, absent, present, Relation, Path, PathSegment, QSelf, TypeTree}
+use Rattle.syn_pat.proofs.pat_laws.words.Patterns.{out-PatOf, map-PatOf, fold_out-PatOf, PatPlace, IsBinding, a_binding, IsBoxed, a_box, IsSingle, a_binding_pat, a_wild, a_rest, a_const, a_call, a_path, a_range, a_reference, a_mutable_reference, a_paren, a_tuple, a_slice, a_tuple_struct, a_struct, a_verbatim, Pat, PatIdent, PatRange, PatRangeBound, open_range, is_binding_name, types_to, IsConstBlock, a_const_block, IsPatPath, a_pat_path, IsRange, without_end, without_start, with_both, IsStart, a_literal_start, a_path_start, a_const_start}
 use Rattle.token_core.specs.Tokens as token
-use Rattle.token_core.specs.Toks.{Bytes, Toks, done, word, mark, group}
-use Rattle.token_core.specs.Trees.{TokenStream, punct, row, trees}
 use Rattle.token_core.proofs.Took.{seen_word}
-use Rattle.syn_path.specs.declared.mac.Macro.{Macro}
-use Rattle.syn_path.specs.declared.path.PathStyle.{PathStyle}
 use Rattle.syn_path.specs.declared.path.PathStyle.TheVariants.{Expr as expressions}
-use Rattle.syn_path.specs.declared.supplied.Place.{Place}
-use Rattle.syn_path.specs.mac.Spelling.{IsCall, a_macro}
-use Rattle.syn_path.specs.path.Paths.{ModPath, nothing}
-use Rattle.syn_path.specs.path.Spelling.{IsBarePath, a_bare_path, no_leading, leading, last_segment, more_segments}
 use Rattle.syn_attr.specs.attr.Attrs.{Attribute as Attr}
-use Rattle.syn_attr.specs.declared.expr.Expr.{Expr}
-use Rattle.syn_attr.specs.declared.expr.ExprConstOf.{ExprConstOf}
 use Rattle.syn_forms.specs.paths.Reading.{is_named_word}
-use Rattle.syn_ty.specs.path.Paths.{Sep}
-use Rattle.syn_ty.specs.path.Spelling.{is_segment_word, IsAnyPath, unqualified, qualified, by_type, by_type_as_path, a_path as a_written_path, IsSegment, a_word, a_word_with_arguments}
-use Rattle.syn_ty.specs.ty.Parts.{Manner, loosely, plainly, clearly, is_clear, IsVerbatim, Parts}
-use Rattle.syn_ty.specs.ty.Spelling.{absent, present, Relation}
-use Rattle.syn_ty.specs.ty.Trees.{Path, PathSegment, QSelf, TypeTree}
+use Rattle.syn_ty.specs.path.Spelling.{a_path as a_written_path}
+use Rattle.syn_ty.specs.ty.Parts.{is_clear}
 use Rattle.syn_path.proofs.Moves.{row_before, words_before}
-use Rattle.syn_pat.specs.declared.pat.PatOf.{out-PatOf, map-PatOf}
-use Rattle.syn_pat.specs.declared.pat.PatOf.TheFolds.{fold_out-PatOf}
 use Rattle.syn_pat.specs.declared.pat.PatOf.TheOpen as o
 use Rattle.syn_pat.specs.declared.pat.PatOf.TheVariants as v
-use Rattle.syn_pat.specs.declared.place.PatPlace.{PatPlace}
-use Rattle.syn_pat.specs.pat.Admitted.{IsBinding, a_binding, IsBoxed, a_box, IsSingle, a_binding_pat, a_wild, a_rest, a_literal as a_literal_pat, a_const, a_call, a_path, a_range, a_reference, a_mutable_reference, a_paren, a_tuple, a_slice, a_tuple_struct, a_struct, a_verbatim}
+use Rattle.syn_pat.specs.pat.Admitted.{a_literal as a_literal_pat}
 use Rattle.syn_pat.specs.pat.Normal.{optional_bound, pat, pat_step, range}
-use Rattle.syn_pat.specs.pat.Pats.{LayerOf, Pat, PatIdent, PatRange, PatRangeBound}
-use Rattle.syn_pat.specs.pat.Reading.{limits_span, open_limits, open_range, open_range_layer}
-use Rattle.syn_pat.specs.pat.Spelling.{is_binding_name, types_to, IsConstBlock, a_const_block, IsPatPath, a_pat_path, IsRange, without_end, without_start, with_both, IsStart, a_literal_start, a_path_start, a_const_start}
+use Rattle.syn_pat.specs.pat.Pats.{LayerOf}
+use Rattle.syn_pat.specs.pat.Reading.{limits_span, open_limits, open_range_layer}
 use Rattle.syn_pat.proofs.pat_laws.complete.Names.{unlike}
 
 -- ---- by the tree

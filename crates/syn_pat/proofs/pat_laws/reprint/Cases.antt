@@ -1,25 +1,16 @@
 -- Patterns joined by `|`, and a pattern in its place, print their normal form clearly, where the patterns that they hold do.
-use Rattle.syn_pat.specs.pat.Printing.{types_shown}
 use Rattle.std.proofs.Common.{Bool, true, false, List, [], ◌∷◌, ◌++◌, Some, None, refl, ◌∙◌, ap, append-nil}
-use Rattle.token_core.specs.Listed.{AreListed, Nowhere}
-use Rattle.token_core.specs.Loops.{Many}
+use Rattle.syn_pat.proofs.pat_laws.words.Tokens.{AreListed, Nowhere, Many, Print, IsMark, Toks}
+use Rattle.syn_pat.proofs.pat_laws.words.Paths.{Place}
+use Rattle.syn_pat.proofs.pat_laws.words.Types.{many, Manner, plainly, clearly, Relation}
+use Rattle.syn_pat.proofs.pat_laws.words.Patterns.{types_shown, PatPlace, Single, Multi, LeadingVert, Element, AreCases, cases, IsPat, a_single, some_cases, one_after_vert, some_after_vert, IsSingle, Pat, or_of}
 use Rattle.token_core.specs.Prints as p
-use Rattle.token_core.specs.Prints.{Print}
-use Rattle.token_core.specs.Spellings.{IsMark}
 use Rattle.token_core.specs.Tokens as token
-use Rattle.token_core.specs.Toks.{Toks}
-use Rattle.syn_path.specs.declared.supplied.Place.{Place}
 use Rattle.syn_path.proofs.Words.{AgainFront}
-use Rattle.syn_ty.specs.generics.NormalShapes.{many}
-use Rattle.syn_ty.specs.ty.Parts.{Manner, plainly, clearly}
-use Rattle.syn_ty.specs.ty.Spelling.{Relation}
 use Rattle.syn_ty.proofs.ty_laws.reprint.Angles.{Then, then_front, made_front}
 use Rattle.syn_ty.proofs.ty_laws.reprint.Leaves.{listed_front, mark_front}
 use Rattle.syn_pat.specs.declared.pat.PatOf.TheVariants as v
-use Rattle.syn_pat.specs.declared.place.PatPlace.{PatPlace}
-use Rattle.syn_pat.specs.declared.place.PatPlace.TheVariants.{Single, Multi, LeadingVert, Element}
-use Rattle.syn_pat.specs.pat.Admitted.{AreCases, cases, Fits, IsPat, a_single, some_cases, one_after_vert, some_after_vert, IsSingle}
-use Rattle.syn_pat.specs.pat.Pats.{Pat, or_of}
+use Rattle.syn_pat.specs.pat.Admitted.{Fits}
 use Rattle.syn_pat.specs.pat.Printing as printing
 use Rattle.syn_pat.proofs.pat_laws.reprint.Begins.{open_kept}
 use Rattle.syn_pat.proofs.pat_laws.reprint.Fields.{PatsAgain, np, pp}

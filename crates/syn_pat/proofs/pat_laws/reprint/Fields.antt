@@ -1,40 +1,24 @@
 -- Bindings, and the fields of a struct, print their normal form clearly, where the patterns that they hold do.
-use Rattle.syn_pat.specs.pat.Printing.{types_shown}
 use Rattle.std.proofs.Common.{◌≡◌, Bool, true, false, [], ◌++◌, map, Option, Some, None, refl, sym, ◌∙◌, ap, subst, append-nil}
-use Rattle.token_core.specs.declared.member.Member.{Member}
+use Rattle.syn_pat.proofs.pat_laws.words.Tokens.{Member, Ident, Anywhere, Many, Print, is_ident, Visible, IsMark, IsMember, IsWord, Bytes, Toks, done, word, TokenStream, row, trees}
+use Rattle.syn_pat.proofs.pat_laws.words.Paths.{Place}
+use Rattle.syn_pat.proofs.pat_laws.words.Types.{many, Manner, plainly, clearly, IsVerbatim, AreMarked, IsOptional, absent, present, Relation, Comma}
+use Rattle.syn_pat.proofs.pat_laws.words.Patterns.{types_shown, PatPlace, Single, LeadingVert, IsBinding, a_binding, IsBoxedName, IsField, with_colon, without_colon, boxed, AreFields, fields_alone, fields_and_rest, IsSubpat, a_subpat, Attrs, FieldPat, Pat, PatIdent, PatRest, binding_of, field_of, rest_of, outer_spelt, is_binding_name}
 use Rattle.token_core.specs.declared.member.Member.TheVariants as member
-use Rattle.token_core.specs.declared.tree.Ident.{Ident}
-use Rattle.token_core.specs.Listed.{Anywhere}
-use Rattle.token_core.specs.Loops.{Many}
 use Rattle.token_core.specs.Members as members
 use Rattle.token_core.specs.Prints as p
-use Rattle.token_core.specs.Prints.{Print}
-use Rattle.token_core.specs.Reads.{is_ident}
-use Rattle.token_core.specs.Rebuilt.{Visible}
-use Rattle.token_core.specs.Spellings.{IsMark, IsMember, IsWord}
 use Rattle.token_core.specs.Tokens as token
-use Rattle.token_core.specs.Toks.{Bytes, Toks, done, word}
-use Rattle.token_core.specs.Trees.{TokenStream, row, trees}
 use Rattle.token_core.proofs.MemberSpells.{member_again, member_visible, member_whole}
-use Rattle.syn_path.specs.declared.supplied.Place.{Place}
 use Rattle.syn_path.proofs.Words.{Again, AgainFront}
 use Rattle.syn_forms.proofs.tokens_laws.Mutability.{word_front}
-use Rattle.syn_ty.specs.generics.NormalShapes.{many}
-use Rattle.syn_ty.specs.ty.Parts.{Manner, plainly, clearly, IsVerbatim, AreMarked}
 use Rattle.syn_ty.specs.ty.Printing.{optional_word}
-use Rattle.syn_ty.specs.ty.Spelling.{IsOptional, absent, present, Relation}
-use Rattle.syn_ty.specs.ty.Types.{Comma, comma}
+use Rattle.syn_ty.specs.ty.Types.{comma}
 use Rattle.syn_ty.proofs.ty_laws.reprint.Angles.{Then, then_front, made_front, IsIdent, ident_front}
 use Rattle.syn_ty.proofs.ty_laws.reprint.Leaves.{listed_front, mark_front}
 use Rattle.syn_ty.proofs.ty_laws.reprint.Signatures.{marked_front, marked_full, optional_front}
 use Rattle.syn_pat.specs.declared.pat.PatOf.TheVariants as v
-use Rattle.syn_pat.specs.declared.place.PatPlace.{PatPlace}
-use Rattle.syn_pat.specs.declared.place.PatPlace.TheVariants.{Single, LeadingVert}
-use Rattle.syn_pat.specs.pat.Admitted.{IsBinding, a_binding, IsBoxedName, IsField, with_colon, without_colon, boxed, AreFields, fields_alone, fields_and_rest, IsSubpat, a_subpat}
 use Rattle.syn_pat.specs.pat.Normal as normal
-use Rattle.syn_pat.specs.pat.Pats.{Attrs, FieldPat, Pat, PatIdent, PatRest, binding_of, field_of, rest_of}
 use Rattle.syn_pat.specs.pat.Printing as printing
-use Rattle.syn_pat.specs.pat.Spelling.{outer_spelt, is_binding_name}
 use Rattle.syn_pat.proofs.pat_laws.reprint.Begins.{mut_first}
 use Rattle.syn_pat.proofs.pat_laws.reprint.Normals.{normal-Ident, normal-Verbatim}
 use Rattle.syn_pat.proofs.pat_laws.reprint.Parts.{SuppliedAgain, Stopped, comma_stops, held_front, listed_stop, marked_stop, stopped, stops_done}

@@ -1,26 +1,21 @@
 -- What the grammar asks of the kind of a pattern or of a path is so of its normal form too.
 use Rattle.std.proofs.Common.{◌≡◌, ℕ, zero, suc, Bool, true, false, if◌then◌else◌, List, [], ◌∷◌, map, Option, Some, None, refl, sym, ◌∙◌, ap}
-use Rattle.token_core.specs.Listed.{none_left, last_value, value_and_mark}
-use Rattle.token_core.specs.Toks.{Toks}
+use Rattle.syn_pat.proofs.pat_laws.words.Tokens.{none_left, last_value, value_and_mark, Toks}
+use Rattle.syn_pat.proofs.pat_laws.words.Paths.{Place}
+use Rattle.syn_pat.proofs.pat_laws.words.Attributes.{Expr}
+use Rattle.syn_pat.proofs.pat_laws.words.Types.{Sep, is_none, IsAnyPath, unqualified, qualified, a_path, AreSegments, IsSegment, a_word, a_word_with_arguments, plainly, absent, present, Path, PathSegment, QSelf, Comma}
+use Rattle.syn_pat.proofs.pat_laws.words.Patterns.{is_tuple, Attrs, Pat, is_rest, lone_word, types_to}
 use Rattle.syn_path.specs.declared.path.PathStyle.TheVariants.{Expr as expressions}
-use Rattle.syn_path.specs.declared.supplied.Place.{Place}
 use Rattle.syn_path.specs.path.Paths.{only}
 use Rattle.syn_path.specs.Values.{NormalValues}
 use Rattle.syn_attr.specs.attr.Attrs.{Attribute as Attr}
-use Rattle.syn_attr.specs.declared.expr.Expr.{Expr}
 use Rattle.syn_ty.specs.declared.path.PathArgumentsOf.TheVariants as a
-use Rattle.syn_ty.specs.path.Paths.{Sep, is_none, none_layer}
-use Rattle.syn_ty.specs.path.Spelling.{some_arguments, IsAnyPath, unqualified, qualified, a_path, AreSegments, IsSegment, a_word, a_word_with_arguments}
+use Rattle.syn_ty.specs.path.Paths.{none_layer}
+use Rattle.syn_ty.specs.path.Spelling.{some_arguments}
 use Rattle.syn_ty.specs.ty.Normal as types
-use Rattle.syn_ty.specs.ty.Parts.{plainly}
-use Rattle.syn_ty.specs.ty.Spelling.{absent, present}
-use Rattle.syn_ty.specs.ty.Trees.{Path, PathArguments, PathSegment, QSelf}
-use Rattle.syn_ty.specs.ty.Types.{Comma}
+use Rattle.syn_ty.specs.ty.Trees.{PathArguments}
 use Rattle.syn_ty.proofs.ty_laws.reprint.Normals.{normal-None, normal-AngleBracketed}
-use Rattle.syn_pat.specs.pat.Admitted.{is_tuple}
-use Rattle.syn_pat.specs.pat.Pats.{Attrs, Pat, is_rest}
 use Rattle.syn_pat.specs.pat.Printing.{tuple_comma, comma_unless}
-use Rattle.syn_pat.specs.pat.Spelling.{lone_word, types_to}
 
 -- ---- paths that are one word
 

@@ -1,16 +1,10 @@
 -- The grammar of patterns tied: at every height, what spells a list plainly prints its normal form clearly, where what is supplied does.
 use Rattle.std.proofs.Common.{◌≡◌, ℕ, zero, suc}
-use Rattle.token_core.specs.Prints.{Print}
+use Rattle.syn_pat.proofs.pat_laws.words.Tokens.{Print, Toks}
+use Rattle.syn_pat.proofs.pat_laws.words.Paths.{Place}
+use Rattle.syn_pat.proofs.pat_laws.words.Types.{Manner, Relation}
+use Rattle.syn_pat.proofs.pat_laws.words.Patterns.{PatPlace, Single, IsPat, a_single, some_cases, one_after_vert, some_after_vert, Pat, pats_to}
 use Rattle.token_core.specs.Tokens as token
-use Rattle.token_core.specs.Toks.{Toks}
-use Rattle.syn_path.specs.declared.supplied.Place.{Place}
-use Rattle.syn_ty.specs.ty.Parts.{Manner}
-use Rattle.syn_ty.specs.ty.Spelling.{Relation}
-use Rattle.syn_pat.specs.declared.place.PatPlace.{PatPlace}
-use Rattle.syn_pat.specs.declared.place.PatPlace.TheVariants.{Single}
-use Rattle.syn_pat.specs.pat.Admitted.{IsPat, a_single, some_cases, one_after_vert, some_after_vert}
-use Rattle.syn_pat.specs.pat.Pats.{Pat}
-use Rattle.syn_pat.specs.pat.Spelt.{pats_to}
 use Rattle.syn_pat.proofs.pat_laws.reprint.Begins.{mut_first, single_mut}
 use Rattle.syn_pat.proofs.pat_laws.reprint.Cases.{pat_again}
 use Rattle.syn_pat.proofs.pat_laws.reprint.Fields.{PatsAgain}

@@ -1,27 +1,21 @@
 -- The normal form of each kind of pattern, and that a pattern stays of its kind.
 use Rattle.std.proofs.Common.{◌≡◌, List, [], ◌∷◌, Option, Some, None, map, refl, sym, ◌∙◌, ap}
-use Rattle.token_core.specs.declared.mark.Mark.{Mark}
-use Rattle.token_core.specs.declared.word.Word.{Word}
-use Rattle.token_core.specs.declared.tree.Ident.{Ident}
-use Rattle.token_core.specs.Trees.{TokenStream}
-use Rattle.syn_path.specs.declared.supplied.Place.{Place}
-use Rattle.syn_pat.specs.declared.pat.PatOf.{out-PatOf, map-PatOf}
-use Rattle.syn_pat.specs.declared.pat.PatOf.TheFolds.{fold-roll-PatOf, fold_out-PatOf}
+use Rattle.syn_pat.proofs.pat_laws.words.Tokens.{Mark, Word, Ident, TokenStream}
+use Rattle.syn_pat.proofs.pat_laws.words.Paths.{Place}
+use Rattle.syn_pat.proofs.pat_laws.words.Attributes.{ExprConstOf, Expr, normal_values_of}
+use Rattle.syn_pat.proofs.pat_laws.words.Types.{Path, QSelf, TypeTree}
+use Rattle.syn_pat.proofs.pat_laws.words.Patterns.{out-PatOf, map-PatOf, fold-roll-PatOf, fold_out-PatOf, Attrs, Pat, PatIdent, PatRange, PatReference, PatRest, PatSlice, PatType, FieldPat, is_rest, binding_of, struct_of, field_of}
 use Rattle.syn_pat.specs.declared.pat.PatOf.TheOpen as o
 use Rattle.syn_pat.specs.declared.pat.PatOf.TheVariants as v
 use Rattle.syn_pat.specs.declared.pat.PatWild.{PatWild}
-use Rattle.syn_attr.specs.declared.expr.ExprConstOf.{ExprConstOf}
 use Rattle.syn_attr.specs.declared.expr.ExprLitOf.{ExprLitOf}
 use Rattle.syn_attr.specs.declared.expr.ExprMacroOf.{ExprMacroOf}
 use Rattle.syn_attr.specs.attr.Normal as attr
 use Rattle.syn_attr.specs.attr.Attrs.{Attribute as Attr}
-use Rattle.syn_ty.specs.ty.Trees.{Path, QSelf, TypeTree}
-use Rattle.syn_attr.specs.declared.expr.Expr.{Expr}
-use Rattle.syn_pat.specs.pat.Pats.{Attrs, LayerOf, Pat, PatGuard, PatIdent, PatOr, PatParen, PatPath, PatRange, PatReference, PatRest, PatSlice, PatStruct, PatTuple, PatTupleStruct, PatType, FieldPat, is_rest, is_rest_layer, binding_of, struct_of, field_of}
+use Rattle.syn_pat.specs.pat.Pats.{LayerOf, PatGuard, PatOr, PatParen, PatPath, PatStruct, PatTuple, PatTupleStruct, is_rest_layer}
 use Rattle.syn_pat.specs.pat.Normal as n
 use Rattle.syn_ty.specs.ty.Normal as types
 use Rattle.syn_pat.specs.pat.Normal.{pat, pat_step}
-use Rattle.syn_attr.specs.attr.Consts.{normal_values_of}
 
 module _ {X : Type 0} (nx : Place → X → X) where
   -- a field after its pattern

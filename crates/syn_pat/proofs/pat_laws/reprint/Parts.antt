@@ -1,49 +1,34 @@
 -- What a pattern is made of prints its normal form clearly, where what is supplied does: what is held, what stands in a group, const blocks, paths, ends of ranges and ranges.
 use Rattle.syn_pat.specs.pat.Printing.{path_shown}
 use Rattle.std.proofs.Common.{◌≡◌, ℕ, Bool, true, false, List, [], ◌++◌, Option, Some, None, refl, sym, ◌∙◌, ap, subst, append-nil}
-use Rattle.token_core.specs.declared.lit.Lit.{Lit}
-use Rattle.token_core.specs.declared.range.RangeLimits.{RangeLimits}
+use Rattle.syn_pat.proofs.pat_laws.words.Tokens.{Lit, RangeLimits, DelimSpan, Delimiter, Brace, Print, Visible, Word, AreListed, none_left, last_value, value_and_mark, sees_mark, last_char, IsLit, IsMark, is_mark, IsWord, is_word, AreLimits, AreOldLimits, new_limits, old_limits, Toks, done, group, TokenStream, row, trees}
+use Rattle.syn_pat.proofs.pat_laws.words.Paths.{Place, Block, Guard, Reprints}
+use Rattle.syn_pat.proofs.pat_laws.words.Attributes.{lit_of, normal_values_of, values_of, Expr, ExprConstOf}
+use Rattle.syn_pat.proofs.pat_laws.words.Types.{Manner, plainly, clearly, IsVerbatim, AreMarked, no_further, one_further, Comma, Path, QSelf}
+use Rattle.syn_pat.proofs.pat_laws.words.Patterns.{PatRange, PatRangeBound, pat_range_of, path_pat_of, outer_spelt, values_spelt, types_to, IsConstBlock, a_const_block, IsPatPath, a_pat_path, IsHead, IsEnd, a_literal_end, a_path_end, a_const_end, IsStart, a_literal_start, a_path_start, a_const_start, IsRange, without_end, without_start, with_both, is_self, lone_word}
 use Rattle.token_core.specs.declared.range.RangeLimits.TheVariants as limits
-use Rattle.token_core.specs.declared.span.DelimSpan.{DelimSpan}
-use Rattle.token_core.specs.declared.tree.Delimiter.{Delimiter}
-use Rattle.token_core.specs.declared.tree.Delimiter.TheVariants.{Brace}
 use Rattle.token_core.specs.Groups as groups
 use Rattle.token_core.specs.Lits as lits
 use Rattle.token_core.specs.Prints as p
-use Rattle.token_core.specs.Prints.{Print}
 use Rattle.token_core.specs.Ranges as ranges
-use Rattle.token_core.specs.Rebuilt.{Visible, IsVisible}
-use Rattle.token_core.specs.declared.word.Word.{Word}
-use Rattle.token_core.specs.Listed.{AreListed, none_left, last_value, value_and_mark}
-use Rattle.token_core.specs.Reads.{sees_mark}
-use Rattle.token_core.specs.Spellings.{last_char, IsLit, IsMark, is_mark, IsWord, is_word, AreLimits, AreOldLimits, new_limits, old_limits}
+use Rattle.token_core.specs.Rebuilt.{IsVisible}
 use Rattle.token_core.specs.Tokens as token
-use Rattle.token_core.specs.Toks.{Toks, done, group}
-use Rattle.token_core.specs.Trees.{TokenStream, row, trees, stream_of_trees}
+use Rattle.token_core.specs.Trees.{stream_of_trees}
 use Rattle.token_core.proofs.LimitSpells.{limits_again, limits_visible, limits_whole, old_limits_again, old_limits_visible}
 use Rattle.token_core.proofs.MarkSpells.{mark_whole}
 use Rattle.token_core.proofs.LitSpells.{lit_again, lit_visible, lit_whole}
 use Rattle.syn_path.specs.declared.path.PathStyle.TheVariants.{Expr as expressions}
-use Rattle.syn_path.specs.declared.supplied.Place.{Place}
-use Rattle.syn_path.specs.declared.supplied.Place.TheVariants.{Block, Guard}
-use Rattle.syn_path.specs.Supplied.{Reprints}
 use Rattle.syn_path.specs.Ends.{Calm, Ended, Moved, NoBang, Shut}
 use Rattle.syn_path.proofs.Ends.{calm_of}
 use Rattle.syn_path.proofs.Moves.{row_before}
 use Rattle.syn_path.proofs.Words.{Again, AgainFront, row-group}
-use Rattle.syn_attr.specs.attr.Attrs.{Attribute as Attr, const_of, lit_of}
-use Rattle.syn_attr.specs.attr.Consts.{normal_values_of, values_of}
+use Rattle.syn_attr.specs.attr.Attrs.{Attribute as Attr, const_of}
 use Rattle.syn_attr.specs.attr.Normal as attr
 use Rattle.syn_attr.specs.attr.Printing as shown
-use Rattle.syn_attr.specs.declared.expr.Expr.{Expr}
-use Rattle.syn_attr.specs.declared.expr.ExprConstOf.{ExprConstOf}
 use Rattle.syn_forms.proofs.tokens_laws.Mutability.{word_front}
 use Rattle.syn_ty.specs.path.Spelling.{IsNoTry}
 use Rattle.syn_ty.specs.ty.Normal as types
-use Rattle.syn_ty.specs.ty.Parts.{Manner, plainly, clearly, IsVerbatim, AreMarked, no_further, one_further}
 use Rattle.syn_ty.specs.ty.Printing as texts
-use Rattle.syn_ty.specs.ty.Types.{Comma}
-use Rattle.syn_ty.specs.ty.Trees.{Path, QSelf}
 use Rattle.syn_ty.proofs.ty_laws.reprint.Angles.{Then, then_front, made_front}
 use Rattle.syn_ty.proofs.ty_laws.reprint.Knot.{GivenAgain, Known, known_to}
 use Rattle.syn_ty.proofs.ty_laws.reprint.Paths.{styled_to}
@@ -52,9 +37,7 @@ use Rattle.syn_ty.proofs.ty_laws.reprint.Leaves.{mark_front}
 use Rattle.syn_ty.proofs.ty_laws.reprint.Steps.{row_seen, row_visible}
 use Rattle.syn_pat.specs.declared.pat.PatRangeBoundOf.TheVariants as b
 use Rattle.syn_pat.specs.pat.Normal as normal
-use Rattle.syn_pat.specs.pat.Pats.{PatRange, PatRangeBound, pat_range_of, path_pat_of}
 use Rattle.syn_pat.specs.pat.Printing as printing
-use Rattle.syn_pat.specs.pat.Spelling.{outer_spelt, values_spelt, types_to, IsConstBlock, a_const_block, IsPatPath, a_pat_path, IsHead, IsEnd, a_literal_end, a_path_end, a_const_end, IsStart, a_literal_start, a_path_start, a_const_start, IsRange, without_end, without_start, with_both, is_self, lone_word}
 use Rattle.syn_pat.proofs.pat_laws.reprint.Kinds.{lone_kept}
 use Rattle.syn_pat.proofs.pat_laws.reprint.PatsMove.{NoDots}
 

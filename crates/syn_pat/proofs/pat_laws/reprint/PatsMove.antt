@@ -1,39 +1,23 @@
 -- A single pattern is spelt clearly before other tokens too, where no longer mark begins with `..` before these: each of its forms, over the patterns within.
 use Rattle.std.proofs.Common.{◌≡◌, ◌||◌, ◌&&◌, ℕ, Bool, true, false, List, [], ◌∷◌, Option, refl, ◌∙◌, ap}
-use Rattle.token_core.specs.declared.range.RangeLimits.{RangeLimits}
-use Rattle.token_core.specs.declared.span.Span.{Span}
-use Rattle.token_core.specs.declared.tree.Delimiter.TheVariants.{Brace, Parenthesis}
-use Rattle.token_core.specs.declared.tree.Ident.{Ident}
-use Rattle.token_core.specs.declared.tree.Spacing.{Spacing}
-use Rattle.token_core.specs.declared.tree.Spacing.TheVariants.{Joint}
+use Rattle.syn_pat.proofs.pat_laws.words.Tokens.{RangeLimits, Span, Brace, Parenthesis, Ident, Spacing, Joint, is_done, sees_mark, IsMark, is_mark, last_char, more_chars, AreLimits, half_open, closed, AreOldLimits, new_limits, old_limits, Toks, done, word, mark, lit, group, enter, leave, punct}
+use Rattle.syn_pat.proofs.pat_laws.words.Paths.{Macro, Place}
+use Rattle.syn_pat.proofs.pat_laws.words.Attributes.{Expr, ExprConstOf}
+use Rattle.syn_pat.proofs.pat_laws.words.Types.{Manner, clearly, IsOptional, absent, present, Relation, Path, QSelf}
+use Rattle.syn_pat.proofs.pat_laws.words.Patterns.{PatPlace, Single, IsBoxed, a_box, IsBoxedName, a_boxed_name, IsSubpat, a_subpat, IsBinding, a_binding, IsSingle, a_binding_pat, a_wild, a_rest, a_literal, a_const, a_call, a_path, a_range, a_reference, a_mutable_reference, a_paren, a_tuple, a_slice, a_tuple_struct, a_struct, a_verbatim, IsPat, a_single, some_cases, one_after_vert, some_after_vert, Pat, PatIdent, PatRange, PatRangeBound, outer_spelt, values_spelt, types_to, IsConstBlock, a_const_block, IsPatPath, a_pat_path, IsHead, IsEnd, a_literal_end, a_path_end, a_const_end, IsStart, a_literal_start, a_path_start, a_const_start, IsRange, without_end, without_start, with_both, IsPatCall}
 use Rattle.token_core.specs.Clear.{Apart, is_glued}
-use Rattle.token_core.specs.Reads.{is_done, is_joint, sees_mark}
-use Rattle.token_core.specs.Spellings.{IsMark, is_mark, last_char, more_chars, AreLimits, half_open, closed, AreOldLimits, new_limits, old_limits}
+use Rattle.token_core.specs.Reads.{is_joint}
 use Rattle.token_core.specs.Tokens as token
-use Rattle.token_core.specs.Toks.{Toks, done, word, mark, lit, group, enter, leave}
-use Rattle.token_core.specs.Trees.{punct}
-use Rattle.syn_path.specs.declared.mac.Macro.{Macro}
-use Rattle.syn_path.specs.declared.supplied.Place.{Place}
 use Rattle.syn_path.specs.Ends.{before, Calm, Ended, Moved, Shut}
 use Rattle.syn_path.proofs.Ends.{call_over, chars_on, group_on, lit_over, on, over, shut_of, word_on, word_over}
 use Rattle.syn_path.proofs.Moves.{steady, calm_after, free_moves, lit_moves, word_moves, words_before}
 use Rattle.syn_attr.specs.attr.Attrs.{Attribute as Attr}
-use Rattle.syn_attr.specs.declared.expr.Expr.{Expr}
-use Rattle.syn_attr.specs.declared.expr.ExprConstOf.{ExprConstOf}
-use Rattle.syn_ty.specs.ty.Parts.{Manner, clearly}
-use Rattle.syn_ty.specs.ty.Spelling.{IsOptional, absent, present, Relation}
-use Rattle.syn_ty.specs.ty.Trees.{Path, QSelf}
 use Rattle.syn_ty.proofs.ty_laws.reprint.MovesKnot.{GivenMoves, moving_to}
 use Rattle.syn_ty.proofs.ty_laws.reprint.EndsParts.{optional_on}
 use Rattle.syn_ty.proofs.ty_laws.reprint.EndsPaths.{any_path_over}
 use Rattle.syn_ty.proofs.ty_laws.reprint.MovesParts.{optional_moves}
 use Rattle.syn_ty.proofs.ty_laws.reprint.MovesPaths.{no_try_moves}
 use Rattle.syn_ty.proofs.ty_laws.reprint.MovesTypes.{holds_before, type_call_moves}
-use Rattle.syn_pat.specs.declared.place.PatPlace.{PatPlace}
-use Rattle.syn_pat.specs.declared.place.PatPlace.TheVariants.{Single}
-use Rattle.syn_pat.specs.pat.Admitted.{IsBoxed, a_box, IsBoxedName, a_boxed_name, IsSubpat, a_subpat, IsBinding, a_binding, IsSingle, a_binding_pat, a_wild, a_rest, a_literal, a_const, a_call, a_path, a_range, a_reference, a_mutable_reference, a_paren, a_tuple, a_slice, a_tuple_struct, a_struct, a_verbatim, IsPat, a_single, some_cases, one_after_vert, some_after_vert}
-use Rattle.syn_pat.specs.pat.Pats.{Pat, PatIdent, PatRange, PatRangeBound}
-use Rattle.syn_pat.specs.pat.Spelling.{outer_spelt, values_spelt, types_to, IsConstBlock, a_const_block, IsPatPath, a_pat_path, IsHead, IsEnd, a_literal_end, a_path_end, a_const_end, IsStart, a_literal_start, a_path_start, a_const_start, IsRange, without_end, without_start, with_both, IsPatCall}
 
 -- ---- `..`
 

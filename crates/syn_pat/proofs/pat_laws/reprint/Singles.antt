@@ -1,44 +1,27 @@
 -- A single pattern prints its normal form clearly, where the patterns that it holds do: each of its forms.
-use Rattle.syn_pat.specs.pat.Printing.{path_shown, types_shown}
+use Rattle.syn_pat.specs.pat.Printing.{path_shown}
 use Rattle.std.proofs.Common.{◌≡◌, Bool, true, false, List, [], ◌++◌, map, Some, None, sym, ◌∙◌, ap, subst, append-nil}
-use Rattle.token_core.specs.declared.lit.Lit.{Lit}
-use Rattle.token_core.specs.declared.span.DelimSpan.{DelimSpan}
-use Rattle.token_core.specs.declared.tree.Delimiter.{Delimiter}
-use Rattle.token_core.specs.declared.tree.Delimiter.TheVariants.{Parenthesis, Brace, Bracket}
+use Rattle.syn_pat.proofs.pat_laws.words.Tokens.{Lit, DelimSpan, Delimiter, Parenthesis, Brace, Bracket, Anywhere, Many, Print, Visible, IsMark, IsLit, IsWord, Toks, done, group, TokenStream, row, trees}
+use Rattle.syn_pat.proofs.pat_laws.words.Paths.{Macro, Place}
+use Rattle.syn_pat.proofs.pat_laws.words.Attributes.{expr_macro_of, lit_of}
+use Rattle.syn_pat.proofs.pat_laws.words.Types.{many, Manner, plainly, clearly, IsVerbatim, Relation, Comma}
+use Rattle.syn_pat.proofs.pat_laws.words.Patterns.{types_shown, PatPlace, Single, LeadingVert, Element, AreElements, IsBinding, IsBoxed, is_tuple, IsSingle, a_binding_pat, a_wild, a_rest, a_literal, a_const, a_call, a_path, a_range, a_reference, a_mutable_reference, a_paren, a_tuple, a_slice, a_tuple_struct, a_struct, a_verbatim, Pat, is_rest, path_pat_of, reference_of, rest_of, slice_of, struct_of, tuple_struct_of, wild_of, is_binding, lone_word, IsConstBlock, IsHead, IsPatCall, IsRange}
 use Rattle.token_core.specs.Groups as groups
-use Rattle.token_core.specs.Listed.{Anywhere}
 use Rattle.token_core.specs.Lits as lits
-use Rattle.token_core.specs.Loops.{Many}
 use Rattle.token_core.specs.Prints as p
-use Rattle.token_core.specs.Prints.{Print}
-use Rattle.token_core.specs.Rebuilt.{Visible}
-use Rattle.token_core.specs.Spellings.{IsMark, IsLit, IsWord}
 use Rattle.token_core.specs.Tokens as token
-use Rattle.token_core.specs.Toks.{Toks, done, group}
-use Rattle.token_core.specs.Trees.{TokenStream, row, trees}
-use Rattle.syn_path.specs.declared.mac.Macro.{Macro}
-use Rattle.syn_path.specs.declared.supplied.Place.{Place}
 use Rattle.syn_path.specs.mac.Printing.{mac}
 use Rattle.syn_path.proofs.Words.{Again, AgainFront}
-use Rattle.syn_attr.specs.attr.Attrs.{expr_macro_of, lit_of}
 use Rattle.syn_attr.specs.attr.Normal as attr
 use Rattle.syn_attr.specs.attr.Printing as shown
 use Rattle.syn_forms.proofs.tokens_laws.Mutability.{word_front}
-use Rattle.syn_ty.specs.generics.NormalShapes.{many}
-use Rattle.syn_ty.specs.ty.Parts.{Manner, plainly, clearly, IsVerbatim}
-use Rattle.syn_ty.specs.ty.Spelling.{Relation}
-use Rattle.syn_ty.specs.ty.Types.{Comma}
 use Rattle.syn_ty.proofs.ty_laws.reprint.Angles.{Then, then_front, made_front}
 use Rattle.syn_ty.proofs.ty_laws.reprint.Forms.{type_call_again}
 use Rattle.syn_ty.proofs.ty_laws.reprint.Leaves.{listed_front, mark_front}
 use Rattle.syn_pat.specs.declared.pat.PatOf.TheVariants as v
-use Rattle.syn_pat.specs.declared.place.PatPlace.{PatPlace}
-use Rattle.syn_pat.specs.declared.place.PatPlace.TheVariants.{Single, LeadingVert, Element}
-use Rattle.syn_pat.specs.pat.Admitted.{AreElements, IsBinding, IsBoxed, is_tuple, IsSingle, a_binding_pat, a_wild, a_rest, a_literal, a_const, a_call, a_path, a_range, a_reference, a_mutable_reference, a_paren, a_tuple, a_slice, a_tuple_struct, a_struct, a_verbatim}
 use Rattle.syn_pat.specs.pat.Normal as normal
-use Rattle.syn_pat.specs.pat.Pats.{Pat, is_rest, paren_of, path_pat_of, reference_of, rest_of, slice_of, struct_of, tuple_of, tuple_struct_of, wild_of}
+use Rattle.syn_pat.specs.pat.Pats.{paren_of, tuple_of}
 use Rattle.syn_pat.specs.pat.Printing as printing
-use Rattle.syn_pat.specs.pat.Spelling.{is_binding, lone_word, IsConstBlock, IsHead, IsPatCall, IsRange}
 use Rattle.syn_pat.proofs.pat_laws.reprint.Begins.{mut_kept}
 use Rattle.syn_pat.proofs.pat_laws.reprint.Fields.{PatsAgain, np, pp, AreHeld, Held, normal_held, print_held, binding_again, fields_again}
 use Rattle.syn_pat.proofs.pat_laws.reprint.Kinds.{no_comma, tuple_kept}

@@ -1,37 +1,27 @@
 -- Each grammar of patterns is reprinted: what spells all of a list plainly prints its normal form clearly, which is its own and prints the same.
-use Rattle.syn_pat.specs.pat.Printing.{types_shown}
 use Rattle.std.proofs.Common.{◌≡◌, ℕ, [], ◌++◌, refl, sym, ◌∙◌, ap, subst}
+use Rattle.syn_pat.proofs.pat_laws.words.Tokens.{Print, Visible, IsWord, Toks, done, row}
+use Rattle.syn_pat.proofs.pat_laws.words.Paths.{Place, Guard}
+use Rattle.syn_pat.proofs.pat_laws.words.Forms.{Plus}
+use Rattle.syn_pat.proofs.pat_laws.words.Attributes.{Expr}
+use Rattle.syn_pat.proofs.pat_laws.words.Types.{plainly, clearly, TypeTree}
+use Rattle.syn_pat.proofs.pat_laws.words.Patterns.{types_shown, PatPlace, Single, LeadingVert, IsPat, Pat, SpellsGuarded, without_guard, with_guard, SpellsPat, SpellsPatType, a_pat_type, pats_to}
 use Rattle.token_core.specs.Prints as p
-use Rattle.token_core.specs.Prints.{Print}
-use Rattle.token_core.specs.Rebuilt.{Visible}
-use Rattle.token_core.specs.Spellings.{IsWord}
 use Rattle.token_core.specs.Tokens as token
-use Rattle.token_core.specs.Toks.{Toks, done}
-use Rattle.token_core.specs.Trees.{row}
 use Rattle.token_core.proofs.Rows.{row-append}
-use Rattle.syn_path.specs.declared.supplied.Place.{Place}
-use Rattle.syn_path.specs.declared.supplied.Place.TheVariants.{Guard}
 use Rattle.syn_path.proofs.Words.{Again, AgainFront}
 use Rattle.syn_attr.specs.attr.Attrs.{Attribute as Attr}
 use Rattle.syn_attr.specs.attr.Normal as attr
 use Rattle.syn_attr.specs.attr.Printing as shown
-use Rattle.syn_attr.specs.declared.expr.Expr.{Expr}
 use Rattle.syn_attr.specs.declared.expr.Expr.TheVariants as e
-use Rattle.syn_forms.specs.declared.places.TypePlace.TheVariants.{Plus}
 use Rattle.syn_forms.proofs.tokens_laws.Mutability.{word_front}
-use Rattle.syn_ty.specs.ty.Parts.{plainly, clearly}
-use Rattle.syn_ty.specs.ty.Trees.{TypeTree}
 use Rattle.syn_ty.proofs.ty_laws.reprint.Angles.{then_front}
 use Rattle.syn_ty.proofs.ty_laws.reprint.Leaves.{mark_front}
 use Rattle.syn_ty.proofs.ty_laws.reprint.Whole.{Whole}
 use Rattle.syn_pat.specs.declared.pat.PatOf.TheVariants as v
-use Rattle.syn_pat.specs.declared.place.PatPlace.{PatPlace}
-use Rattle.syn_pat.specs.declared.place.PatPlace.TheVariants.{Single, LeadingVert}
-use Rattle.syn_pat.specs.pat.Admitted.{IsPat}
 use Rattle.syn_pat.specs.pat.Normal as normal
-use Rattle.syn_pat.specs.pat.Pats.{Pat, guard_of, typed_of}
+use Rattle.syn_pat.specs.pat.Pats.{guard_of, typed_of}
 use Rattle.syn_pat.specs.pat.Printing as printing
-use Rattle.syn_pat.specs.pat.Spelt.{SpellsGuarded, without_guard, with_guard, SpellsPat, SpellsPatType, a_pat_type, pats_to}
 use Rattle.syn_pat.proofs.pat_laws.reprint.Cases.{pat_again}
 use Rattle.syn_pat.proofs.pat_laws.reprint.Knot.{pats_again}
 use Rattle.syn_pat.proofs.pat_laws.reprint.Normals.{normal-Guard}

@@ -1,31 +1,19 @@
 -- A read of a pattern that answers stands further on, where the reads of the patterns within, of paths and of attributes do.
 use Rattle.std.proofs.Common.{not, ◌&&◌, ◌||◌, is_some, Option, Some, None}
-use Rattle.token_core.specs.declared.range.RangeLimits.{RangeLimits}
+use Rattle.syn_pat.proofs.pat_laws.words.Tokens.{RangeLimits, DelimSpan, Span, Delimiter, Parenthesis, Brace, Bracket, TokenStream, sees_lit, never, Reader, sees_group}
+use Rattle.syn_pat.proofs.pat_laws.words.Paths.{Place, Block, ModPath, PathOf, Along}
+use Rattle.syn_pat.proofs.pat_laws.words.Forms.{position}
+use Rattle.syn_pat.proofs.pat_laws.words.Types.{sees_call}
+use Rattle.syn_pat.proofs.pat_laws.words.Patterns.{PatPlace, Single, Multi, LeadingVert, Element, PatOver, ReadersOver}
 use Rattle.token_core.specs.declared.range.RangeLimits.TheVariants as limits
-use Rattle.token_core.specs.declared.span.DelimSpan.{DelimSpan}
-use Rattle.token_core.specs.declared.span.Span.{Span}
-use Rattle.token_core.specs.declared.tree.Delimiter.{Delimiter}
-use Rattle.token_core.specs.declared.tree.Delimiter.TheVariants.{Parenthesis, Brace, Bracket, None as NoDelimiter}
-use Rattle.token_core.specs.Trees.{TokenStream}
+use Rattle.token_core.specs.declared.tree.Delimiter.TheVariants.{None as NoDelimiter}
 use Rattle.token_core.specs.Groups as groups
-use Rattle.token_core.specs.Lits.{sees_lit}
-use Rattle.token_core.specs.Loops.{never}
-use Rattle.token_core.specs.Reads.{Reader, sees_group}
-use Rattle.syn_path.specs.declared.supplied.Place.{Place}
-use Rattle.syn_path.specs.declared.supplied.Place.TheVariants.{Block}
 use Rattle.syn_path.specs.mac.Reading as macs
-use Rattle.syn_path.specs.path.Paths.{ModPath}
-use Rattle.syn_forms.specs.verbatim.Reading.{position}
 use Rattle.syn_path.specs.path.Paths.{is_mod_style}
-use Rattle.syn_path.specs.declared.path.PathOf.{PathOf}
-use Rattle.syn_ty.specs.ty.Reading.{sees_call}
-use Rattle.syn_path.specs.Took.{Along}
 use Rattle.syn_pat.specs.declared.pat.PatOf.TheVariants as v
-use Rattle.syn_pat.specs.declared.place.PatPlace.{PatPlace}
-use Rattle.syn_pat.specs.declared.place.PatPlace.TheVariants.{Single, Multi, LeadingVert, Element}
-use Rattle.syn_pat.specs.pat.Pats.{PatOver, RangeBoundOver}
+use Rattle.syn_pat.specs.pat.Pats.{RangeBoundOver}
 use Rattle.syn_pat.specs.pat.Reading as reading
-use Rattle.syn_pat.specs.pat.Reading.{Named, ReadersOver}
+use Rattle.syn_pat.specs.pat.Reading.{Named}
 use Rattle.token_core.specs.Tokens as token
 use Rattle.syn_path.proofs.Along.{bind, delimited_along, either, in_group_along, literal, made, mark, named, old_range_limits, optional_along, range_limits, refused, stays, word}
 use Rattle.syn_forms.proofs.along_laws.Kit.{brackets_along, held_since, list_from_along, parens_along}

@@ -1,39 +1,24 @@
 -- Where bindings, references and what parentheses and brackets hold are read, they are spelt, over the same law of the patterns within.
 use Rattle.std.proofs.Common.{◌≡◌, Bool, true, false, not, ◌&&◌, List, [], ◌∷◌, Option, Some, None, Ok, inl, inr, refl, sym, ◌∙◌, ap, subst, arith}
-use Rattle.token_core.specs.declared.span.DelimSpan.{DelimSpan}
-use Rattle.token_core.specs.declared.tree.Delimiter.TheVariants.{Parenthesis, Bracket}
-use Rattle.token_core.specs.declared.tree.Ident.{Ident}
+use Rattle.syn_pat.proofs.pat_laws.words.Tokens.{DelimSpan, Parenthesis, Bracket, Ident, AreListed, Anywhere, none_left, last_value, value_and_mark, Many, listed, Reader, ident_name, in_group, is_done, is_ident, is_text, leaves, optional, read_word, Visible, IsMark, IsWord, Stream, Toks, done, word, group}
+use Rattle.syn_pat.proofs.pat_laws.words.Paths.{Place}
+use Rattle.syn_pat.proofs.pat_laws.words.Forms.{at_end, before_end, list_from, comma, mutable}
+use Rattle.syn_pat.proofs.pat_laws.words.Types.{Manner, loosely, IsOptional, absent, present, Relation, Comma}
+use Rattle.syn_pat.proofs.pat_laws.words.Patterns.{PatPlace, Single, LeadingVert, Element, AreElements, is_tuple, IsBinding, a_binding, IsSingleWhere, a_reference, a_mutable_reference, a_paren, a_tuple, a_slice, IsSubpat, a_subpat, Pat, PatIdent, PatReference, PatSlice, binding_of, is_rest, reference_of, slice_of, Readers, binding, elements, paren_content, paren_or_tuple, reference, slice, is_binding_name}
 use Rattle.token_core.specs.Groups as groups
-use Rattle.token_core.specs.Listed.{AreListed, Anywhere, none_left, last_value, value_and_mark}
-use Rattle.token_core.specs.Loops.{Many, listed}
-use Rattle.token_core.specs.Reads.{Reader, any_text, ident_name, in_group, is_done, is_ident, is_text, leaves, optional, read_word}
-use Rattle.token_core.specs.Rebuilt.{Visible}
-use Rattle.token_core.specs.Spellings.{IsMark, IsWord}
-use Rattle.token_core.specs.Stream.{Stream}
+use Rattle.token_core.specs.Reads.{any_text}
 use Rattle.token_core.specs.Tokens as token
-use Rattle.token_core.specs.Toks.{Toks, done, word, group}
 use Rattle.token_core.proofs.Listings.{listed_sound, listed_visible}
 use Rattle.token_core.proofs.MarkSpells.{mark_sound, mark_visible}
 use Rattle.token_core.proofs.Took.{Word, branch, mapped, seen_word, took_all, took_word}
 use Rattle.token_core.proofs.Turns.{chain, same_pair}
 use Rattle.syn_path.proofs.Words.{TookOne}
-use Rattle.syn_path.specs.declared.supplied.Place.{Place}
-use Rattle.syn_forms.specs.lists.Reading.{at_end, before_end, list_from}
-use Rattle.syn_forms.specs.tokens.Reading.{comma, mutable}
 use Rattle.syn_forms.proofs.tokens_laws.Fronts.{nothing_left, took_as}
-use Rattle.syn_ty.specs.ty.Parts.{Manner, loosely}
-use Rattle.syn_ty.specs.ty.Spelling.{IsOptional, absent, present, Relation}
-use Rattle.syn_ty.specs.ty.Types.{Comma}
 use Rattle.syn_ty.proofs.ty_laws.sound.Leaves.{IsHeld, comma_seen, comma_took, held_sound, named_sound, optional_sound, twice}
 use Rattle.syn_pat.specs.declared.pat.PatOf.TheVariants as pat
 use Rattle.syn_pat.specs.declared.pat.read.groups.InParens.{InParens}
 use Rattle.syn_pat.specs.declared.pat.read.groups.InParens.TheVariants as held
-use Rattle.syn_pat.specs.declared.place.PatPlace.{PatPlace}
-use Rattle.syn_pat.specs.declared.place.PatPlace.TheVariants.{Single, LeadingVert, Element}
-use Rattle.syn_pat.specs.pat.Admitted.{AreElements, is_tuple, IsBinding, a_binding, IsSingleWhere, a_reference, a_mutable_reference, a_paren, a_tuple, a_slice, IsSubpat, a_subpat}
-use Rattle.syn_pat.specs.pat.Pats.{Pat, PatIdent, PatReference, PatSlice, binding_of, is_rest, reference_of, slice_of}
-use Rattle.syn_pat.specs.pat.Reading.{Readers, binding, bound_head, bound_name, by_ref, elements, of_parens, optional_subpat, paren_content, paren_or_tuple, reference, slice, subpat}
-use Rattle.syn_pat.specs.pat.Spelling.{is_binding_name}
+use Rattle.syn_pat.specs.pat.Reading.{bound_head, bound_name, by_ref, of_parens, optional_subpat, subpat}
 use Rattle.syn_pat.proofs.pat_laws.sound.Within.{Before, Held, listed_before, not_false, not_true, or_left, or_right, Stopping}
 
 -- ---- a name that is bound

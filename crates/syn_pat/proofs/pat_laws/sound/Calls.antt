@@ -1,51 +1,31 @@
 -- Where a macro call is read after the path of a pattern, it is spelt: its path has no arguments, does not begin with `try`, and is not `self` alone. And where a path without a type that qualifies it was read, no `::` goes on with it.
 use Rattle.std.proofs.Common.{◌≡◌, ℕ, zero, suc, Bool, true, false, ◌&&◌, ◌⊎◌, inl, inr, List, [], ◌∷◌, map, Option, Some, None, Ok, refl, sym, ◌∙◌, ap, subst, arith}
 use Rattle.std.specs.List.{list_all}
-use Rattle.token_core.specs.declared.span.Span.{Span}
-use Rattle.token_core.specs.declared.tree.Ident.{Ident}
-use Rattle.token_core.specs.declared.tree.Spacing.{Spacing}
-use Rattle.token_core.specs.Listed.{AreListed, Nowhere, none_left, last_value, value_and_mark}
-use Rattle.token_core.specs.Loops.{Many, listed, listed_from, never, size}
-use Rattle.token_core.specs.Reads.{Reader, optional, pure, sees_mark, ◌>>=◌}
-use Rattle.token_core.specs.Rebuilt.{Visible}
-use Rattle.token_core.specs.Spellings.{last_char, more_chars, IsMark, is_mark}
-use Rattle.token_core.specs.Stream.{Stream}
+use Rattle.syn_pat.proofs.pat_laws.words.Tokens.{Span, Ident, Spacing, AreListed, Nowhere, none_left, last_value, value_and_mark, Many, listed, never, size, Reader, optional, pure, sees_mark, ◌>>=◌, Visible, last_char, more_chars, IsMark, is_mark, Stream, Toks, word, mark, group, punct}
+use Rattle.syn_pat.proofs.pat_laws.words.Paths.{Macro, PathStyle, Place, IsCall, a_macro, ModPath, lone_ident, nothing, IsBarePath, a_bare_path, no_leading, leading, last_segment, more_segments}
+use Rattle.syn_pat.proofs.pat_laws.words.Forms.{Plus, ahead, goes_on}
+use Rattle.syn_pat.proofs.pat_laws.words.Attributes.{outer, Expr}
+use Rattle.syn_pat.proofs.pat_laws.words.Types.{Sep, is_none, is_mod_style, is_segment_word, IsPath, a_path, IsSegment, a_word, a_word_with_arguments, loosely, IsOptional, absent, present, Path, PathSegment, QSelf}
+use Rattle.syn_pat.proofs.pat_laws.words.Patterns.{begins_path, qpath, values, IsPatCall, is_self, types_to}
+use Rattle.token_core.specs.Loops.{listed_from}
 use Rattle.token_core.specs.Tokens as token
-use Rattle.token_core.specs.Toks.{Toks, word, mark, group}
-use Rattle.token_core.specs.Trees.{punct}
 use Rattle.token_core.proofs.MarkSpells.{mark_sound, mark_visible}
 use Rattle.token_core.proofs.Took.{branch, mapped}
 use Rattle.token_core.proofs.Turns.{chain, same_pair}
 use Rattle.syn_path.proofs.mac_laws.Sound.{call_sound, took_body}
-use Rattle.syn_path.specs.declared.mac.Macro.{Macro}
-use Rattle.syn_path.specs.declared.path.PathStyle.{PathStyle}
 use Rattle.syn_path.specs.declared.path.PathStyle.TheVariants.{Expr as expressions}
-use Rattle.syn_path.specs.declared.supplied.Place.{Place}
 use Rattle.syn_path.specs.mac.Macros.{Held as HeldTokens, macro_of}
 use Rattle.syn_path.specs.mac.Reading as macs
-use Rattle.syn_path.specs.mac.Spelling.{IsCall, a_macro}
-use Rattle.syn_path.specs.path.Paths.{ModPath, lone_ident, nothing, path_of, segment_of, without}
+use Rattle.syn_path.specs.path.Paths.{path_of, segment_of, without}
 use Rattle.syn_path.specs.path.Reading.{leading as read_leading}
 use Rattle.syn_path.specs.path.Spelling as bare
-use Rattle.syn_path.specs.path.Spelling.{IsBarePath, a_bare_path, IsLeading, no_leading, leading, last_segment, more_segments}
+use Rattle.syn_path.specs.path.Spelling.{IsLeading}
 use Rattle.syn_attr.specs.attr.Attrs.{Attribute as Attr}
-use Rattle.syn_attr.specs.attr.Reading.{outer}
-use Rattle.syn_attr.specs.declared.expr.Expr.{Expr}
-use Rattle.syn_forms.specs.declared.places.TypePlace.TheVariants.{Plus}
-use Rattle.syn_forms.specs.nested.Below.{ahead}
 use Rattle.syn_forms.specs.paths.Reading as paths
-use Rattle.syn_forms.specs.paths.Reading.{goes_on}
 use Rattle.syn_ty.specs.path.Alone as alone
-use Rattle.syn_ty.specs.path.Paths.{Sep, is_none, no_arguments}
-use Rattle.syn_ty.specs.path.Reading.{is_mod_style}
-use Rattle.syn_ty.specs.path.Spelling.{is_segment_word, IsPath, a_path, IsSegment, a_word, a_word_with_arguments}
+use Rattle.syn_ty.specs.path.Paths.{no_arguments}
 use Rattle.syn_ty.specs.ty.Knot as types
-use Rattle.syn_ty.specs.ty.Parts.{loosely}
 use Rattle.syn_ty.specs.ty.Points.{Readers, a_type, some_arguments}
-use Rattle.syn_ty.specs.ty.Spelling.{IsOptional, absent, present}
-use Rattle.syn_ty.specs.ty.Trees.{Path, PathSegment, QSelf}
-use Rattle.syn_pat.specs.pat.Reading.{begins_path, qpath, values}
-use Rattle.syn_pat.specs.pat.Spelling.{IsPatCall, is_self, types_to}
 use Rattle.syn_pat.proofs.pat_laws.sound.Names.{contrary, held_is, no_self}
 use Rattle.syn_pat.proofs.pat_laws.sound.Within.{AnyPath, TookOn}
 

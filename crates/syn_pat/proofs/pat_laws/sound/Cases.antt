@@ -1,31 +1,21 @@
 -- Where a pattern is read in its place, it is spelt, over the same law of the patterns within: a single pattern, cases joined by `|`, and a `|` before the first.
 use Rattle.std.proofs.Common.{◌≡◌, Bool, true, false, ◌||◌, List, [], ◌∷◌, Option, Some, None, is_some, Ok, inl, inr, refl, sym, ◌∙◌, subst, arith}
-use Rattle.token_core.specs.declared.span.Span.{Span}
-use Rattle.token_core.specs.Listed.{AreListed, Nowhere, none_left, last_value, value_and_mark}
-use Rattle.token_core.specs.Loops.{Many, listed, never}
-use Rattle.token_core.specs.Reads.{Reader, optional}
-use Rattle.token_core.specs.Rebuilt.{Visible}
-use Rattle.token_core.specs.Spellings.{IsMark}
-use Rattle.token_core.specs.Stream.{Stream}
+use Rattle.syn_pat.proofs.pat_laws.words.Tokens.{Span, AreListed, Nowhere, none_left, last_value, value_and_mark, Many, listed, never, Reader, optional, Visible, IsMark, Stream, Toks}
+use Rattle.syn_pat.proofs.pat_laws.words.Paths.{Place}
+use Rattle.syn_pat.proofs.pat_laws.words.Forms.{list_from}
+use Rattle.syn_pat.proofs.pat_laws.words.Types.{Manner, loosely, IsOptional, absent, present, Relation}
+use Rattle.syn_pat.proofs.pat_laws.words.Patterns.{PatPlace, Single, Multi, LeadingVert, Element, cases, a_single, some_cases, one_after_vert, some_after_vert, IsSingleWhere, Pat, or_of, Readers, open_range, pat_step, sees_vert, single, type_names}
 use Rattle.token_core.specs.Tokens as token
-use Rattle.token_core.specs.Toks.{Toks}
 use Rattle.token_core.proofs.Listings.{listed_sound, listed_visible}
 use Rattle.token_core.proofs.MarkSpells.{mark_sound, mark_visible}
 use Rattle.token_core.proofs.Took.{branch, mapped}
 use Rattle.token_core.proofs.Turns.{chain, same_pair}
 use Rattle.syn_path.proofs.Words.{TookOne}
-use Rattle.syn_path.specs.declared.supplied.Place.{Place}
-use Rattle.syn_forms.specs.lists.Reading.{list_from}
 use Rattle.syn_forms.proofs.tokens_laws.Fronts.{plainly}
-use Rattle.syn_ty.specs.ty.Parts.{Manner, loosely}
-use Rattle.syn_ty.specs.ty.Spelling.{IsOptional, absent, present, Relation}
 use Rattle.syn_ty.proofs.ty_laws.sound.Leaves.{optional_sound}
 use Rattle.syn_pat.specs.declared.pat.PatOf.TheVariants as pat
-use Rattle.syn_pat.specs.declared.place.PatPlace.{PatPlace}
-use Rattle.syn_pat.specs.declared.place.PatPlace.TheVariants.{Single, Multi, LeadingVert, Element}
-use Rattle.syn_pat.specs.pat.Admitted.{cases, Fits, IsPatWhere, a_single, some_cases, one_after_vert, some_after_vert, IsSingleWhere, allows_cases, allows_vert}
-use Rattle.syn_pat.specs.pat.Pats.{Pat, or_of}
-use Rattle.syn_pat.specs.pat.Reading.{Readers, alternatives, as_element, element, leading, multi, open_range, pat_step, sees_vert, single, unless_open, type_names}
+use Rattle.syn_pat.specs.pat.Admitted.{Fits, IsPatWhere, allows_cases, allows_vert}
+use Rattle.syn_pat.specs.pat.Reading.{alternatives, as_element, element, leading, multi, unless_open}
 use Rattle.syn_pat.proofs.pat_laws.sound.Singles.{single_took}
 use Rattle.syn_pat.proofs.pat_laws.sound.Within.{Before, Held, listed_before, Stopping, SuppliedTold, TookOn}
 

@@ -1,40 +1,25 @@
 -- No type begins with a `:` that is not the first half of `::`.
 use Rattle.std.proofs.Common.{◌≡◌, Bool, true, false, ◌&&◌, ◌==◌, if◌then◌else◌, List, Option, Some, None, is_some, refl, sym, ap, subst}
 use Rattle.std.proofs.lemmas.Bool.{eqb-true}
-use Rattle.token_core.specs.declared.span.DelimSpan.{DelimSpan}
-use Rattle.token_core.specs.declared.span.Span.{Span}
+use Rattle.syn_pat.proofs.pat_laws.words.Tokens.{DelimSpan, Span, Delimiter, Parenthesis, Ident, Punct, Spacing, Joint, Word, AreListed, Nowhere, none_left, last_value, value_and_mark, after_one, sees_group, sees_mark, Visible, last_char, more_chars, IsMark, is_mark, IsWord, is_word, Bytes, Toks, done, word, mark, lit, group, enter, leave, punct}
+use Rattle.syn_pat.proofs.pat_laws.words.Paths.{Macro, PathStyle, IsCall, a_macro, ModPath, nothing, IsBarePath, a_bare_path, no_leading, leading, last_segment, more_segments}
+use Rattle.syn_pat.proofs.pat_laws.words.Types.{IsAnyPath, qualified, unqualified, by_type, by_type_as_path, IsPath, a_path, IsSegment, a_word, a_word_with_arguments, Manner, loosely, End, Parts, IsOptional, absent, present, Path, PathSegment, QSelf, TypeTree}
 use Rattle.token_core.specs.declared.mark.Spans.{Spans}
-use Rattle.token_core.specs.declared.tree.Delimiter.{Delimiter}
-use Rattle.token_core.specs.declared.tree.Delimiter.TheVariants.{Parenthesis}
-use Rattle.token_core.specs.declared.tree.Ident.{Ident}
-use Rattle.token_core.specs.declared.tree.Punct.{Punct}
-use Rattle.token_core.specs.declared.tree.Spacing.{Spacing}
-use Rattle.token_core.specs.declared.tree.Spacing.TheVariants.{Joint, Alone}
-use Rattle.token_core.specs.declared.word.Word.{Word}
+use Rattle.token_core.specs.declared.tree.Spacing.TheVariants.{Alone}
 use Rattle.token_core.specs.Lifetimes.{sees_lifetime}
-use Rattle.token_core.specs.Listed.{AreListed, Nowhere, none_left, last_value, value_and_mark}
-use Rattle.token_core.specs.Reads.{after_one, put_first, sees_group, sees_mark}
-use Rattle.token_core.specs.Rebuilt.{Visible}
-use Rattle.token_core.specs.Spellings.{last_char, more_chars, IsMark, is_mark, IsWord, is_word}
+use Rattle.token_core.specs.Reads.{put_first}
 use Rattle.token_core.specs.Tokens as token
-use Rattle.token_core.specs.Toks.{Bytes, Toks, done, word, mark, lit, group, enter, leave}
-use Rattle.token_core.specs.Trees.{punct}
-use Rattle.syn_path.specs.declared.mac.Macro.{Macro}
-use Rattle.syn_path.specs.declared.path.PathStyle.{PathStyle}
 use Rattle.syn_path.specs.declared.path.PathStyle.TheVariants.{AsWritten}
-use Rattle.syn_path.specs.mac.Spelling.{IsCall, a_macro}
-use Rattle.syn_path.specs.path.Paths.{ModPath, Sep, nothing}
-use Rattle.syn_path.specs.path.Spelling.{IsBarePath, a_bare_path, no_leading, leading, last_segment, more_segments}
+use Rattle.syn_path.specs.path.Paths.{Sep}
 use Rattle.syn_forms.specs.declared.places.TypePlace.{TypePlace}
 use Rattle.syn_ty.specs.generics.Bounds.{IsFor}
 use Rattle.syn_ty.specs.generics.Spelling.{a_binder}
-use Rattle.syn_ty.specs.path.Spelling.{IsAnyPath, qualified, unqualified, by_type, by_type_as_path, IsPath, a_path, IsSegment, a_word, a_word_with_arguments}
 use Rattle.syn_ty.specs.ty.Admitted.{a_borrow, a_mutable_borrow, a_lifetime_borrow, bracketed, counted, enclosed, a_pointer, no_element, some_elements, IsType, a_path_type, a_macro, a_bound_macro, an_object_with_dyn, an_object_without_dyn, an_impl_type, a_fn_type, a_ptr_type, a_reference_type, a_paren_type, a_tuple_type, a_slice_type, an_array_type, an_infer_type, a_never_type, a_verbatim_type, IsVerbatimType, an_unsafe_binder, a_dyn_star, a_builtin}
 use Rattle.syn_ty.specs.ty.Functions.{a_fn_ptr, an_abi}
 use Rattle.syn_ty.specs.ty.Objects.{IsFirst, a_first, a_first_for, a_dyn, an_impl, path_alone, path_and_plus, held_and_plus, asked_first, asked_in_two, lifetime_first}
-use Rattle.syn_ty.specs.ty.Parts.{Manner, loosely, is_clear, End, Parts}
-use Rattle.syn_ty.specs.ty.Spelling.{IsOptional, absent, present, an_infer, a_never}
-use Rattle.syn_ty.specs.ty.Trees.{BoundLifetimes, Path, PathSegment, QSelf, TypeTree}
+use Rattle.syn_ty.specs.ty.Parts.{is_clear}
+use Rattle.syn_ty.specs.ty.Spelling.{an_infer, a_never}
+use Rattle.syn_ty.specs.ty.Trees.{BoundLifetimes}
 use Rattle.syn_pat.proofs.pat_laws.sound.Within.{and_second, chosen_some, sees_called, Stops}
 
 -- a `:` there is the first half of `::`

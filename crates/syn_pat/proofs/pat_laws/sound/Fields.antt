@@ -1,42 +1,29 @@
 -- Where the fields of a struct are read, they are spelt, over the same law of the patterns within: each field, and what the braces hold.
 use Rattle.std.proofs.Common.{◌≡◌, ℕ, zero, suc, Bool, true, false, List, [], Option, Some, None, Ok, inl, inr, refl, sym, ◌∙◌, ap, subst, arith}
-use Rattle.token_core.specs.declared.member.Member.{Member}
+use Rattle.syn_pat.proofs.pat_laws.words.Tokens.{Member, Ident, TokenStream, AreListed, Anywhere, none_left, last_value, value_and_mark, size, Reader, ident_name, is_done, is_ident, leaves, optional, read_word, ◌>>=◌, Visible, IsMark, IsMember, IsWord, Stream, Toks, done, word}
+use Rattle.syn_pat.proofs.pat_laws.words.Paths.{Place}
+use Rattle.syn_pat.proofs.pat_laws.words.Forms.{comma, mutable, position}
+use Rattle.syn_pat.proofs.pat_laws.words.Attributes.{outer}
+use Rattle.syn_pat.proofs.pat_laws.words.Types.{Manner, loosely, Holds, AreMarked, no_further, one_further, IsOptional, absent, present, Relation, Comma}
+use Rattle.syn_pat.proofs.pat_laws.words.Patterns.{PatPlace, LeadingVert, AreFields, fields_alone, fields_and_rest, a_boxed_name, IsField, with_colon, without_colon, boxed, Attrs, FieldPat, Pat, binding_of, field_of, rest_of, Fields, Readers, field, fields, fields_from, no_fields, one_field, put_field, outer_spelt}
 use Rattle.token_core.specs.declared.member.Member.TheVariants as member
-use Rattle.token_core.specs.declared.tree.Ident.{Ident}
-use Rattle.token_core.specs.Trees.{TokenStream}
-use Rattle.token_core.specs.Listed.{AreListed, Anywhere, none_left, last_value, value_and_mark}
-use Rattle.token_core.specs.Loops.{size}
 use Rattle.token_core.specs.Members.{read_member}
 use Rattle.token_core.specs.Positions.{Item}
-use Rattle.token_core.specs.Reads.{Follows, Reader, ident_name, is_done, is_ident, leaves, optional, read_word, ◌>>=◌}
-use Rattle.token_core.specs.Rebuilt.{Visible}
-use Rattle.token_core.specs.Spellings.{IsMark, IsMember, named, IsWord}
-use Rattle.token_core.specs.Stream.{Stream}
+use Rattle.token_core.specs.Reads.{Follows}
+use Rattle.token_core.specs.Spellings.{named}
 use Rattle.token_core.specs.Tokens as token
-use Rattle.token_core.specs.Toks.{Toks, done, word}
 use Rattle.token_core.proofs.MarkSpells.{mark_sound, mark_visible}
 use Rattle.token_core.proofs.MemberSpells.{member_sound, member_visible}
 use Rattle.token_core.proofs.Suffixes.{follows_trans}
 use Rattle.token_core.proofs.Took.{branch, mapped, took_all, took_word}
 use Rattle.token_core.proofs.Turns.{chain, same_pair}
 use Rattle.syn_path.proofs.Words.{TookOne}
-use Rattle.syn_path.specs.declared.supplied.Place.{Place}
-use Rattle.syn_attr.specs.attr.Reading.{outer}
-use Rattle.syn_forms.specs.tokens.Reading.{comma, mutable}
-use Rattle.syn_forms.specs.verbatim.Reading.{position, since}
+use Rattle.syn_forms.specs.verbatim.Reading.{since}
 use Rattle.syn_forms.proofs.tokens_laws.Fronts.{nothing_left}
-use Rattle.syn_ty.specs.ty.Parts.{Manner, loosely, Holds, AreMarked, no_further, one_further}
-use Rattle.syn_ty.specs.ty.Spelling.{IsOptional, absent, present, Relation}
-use Rattle.syn_ty.specs.ty.Types.{Comma}
 use Rattle.syn_ty.proofs.ty_laws.sound.Held.{holds_since}
 use Rattle.syn_ty.proofs.ty_laws.sound.Leaves.{comma_seen, named_sound, optional_sound, twice}
 use Rattle.syn_pat.specs.declared.pat.PatOf.TheVariants as pat
-use Rattle.syn_pat.specs.declared.place.PatPlace.{PatPlace}
-use Rattle.syn_pat.specs.declared.place.PatPlace.TheVariants.{LeadingVert}
-use Rattle.syn_pat.specs.pat.Admitted.{AreFields, fields_alone, fields_and_rest, a_boxed_name, IsField, with_colon, without_colon, boxed}
-use Rattle.syn_pat.specs.pat.Pats.{Attrs, FieldPat, Pat, binding_of, field_of, rest_of}
-use Rattle.syn_pat.specs.pat.Reading.{Fields, Modes, Readers, bound_field, by_ref, field, fields, fields_from, has_mode, member_field, modes, no_fields, one_field, plain_field, put_field}
-use Rattle.syn_pat.specs.pat.Spelling.{outer_spelt}
+use Rattle.syn_pat.specs.pat.Reading.{Modes, bound_field, by_ref, has_mode, member_field, modes, plain_field}
 use Rattle.syn_pat.proofs.pat_laws.sound.Along.{modes_along}
 use Rattle.syn_pat.proofs.pat_laws.sound.Bindings.{mutable_took, ref_took}
 use Rattle.syn_path.proofs.Along.{word as word_along}

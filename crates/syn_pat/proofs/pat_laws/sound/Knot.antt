@@ -1,42 +1,31 @@
 -- The law of patterns, tied by the count of turns; and so where all of a list is read as a pattern, as one with a guard or with a type, it is spelt.
 use Rattle.std.proofs.Common.{◌≡◌, ℕ, zero, suc, Bool, false, [], None, Ok, inl, inr, refl, sym, ◌∙◌, ap, subst, arith}
-use Rattle.token_core.specs.Reads.{Reader, leaves}
-use Rattle.token_core.specs.Rebuilt.{Visible}
-use Rattle.token_core.specs.Spellings.{IsMark, IsWord}
-use Rattle.token_core.specs.Stream.{Stream}
+use Rattle.syn_pat.proofs.pat_laws.words.Tokens.{Reader, leaves, Visible, IsMark, IsWord, Stream, Toks, done}
+use Rattle.syn_pat.proofs.pat_laws.words.Paths.{Place, Guard, Along}
+use Rattle.syn_pat.proofs.pat_laws.words.Forms.{Plus, ahead}
+use Rattle.syn_pat.proofs.pat_laws.words.Attributes.{Expr}
+use Rattle.syn_pat.proofs.pat_laws.words.Types.{Manner, loosely, End, Relation, TypeTree}
+use Rattle.syn_pat.proofs.pat_laws.words.Patterns.{PatPlace, Single, LeadingVert, pat, Pat, PatType, Readers, type_names, outer_spelt, types_to, values_spelt, SpellsGuarded, without_guard, with_guard, SpellsPat, SpellsPatType, a_pat_type, pats_to}
 use Rattle.token_core.specs.Tokens as token
-use Rattle.token_core.specs.Toks.{Toks, done}
 use Rattle.token_core.proofs.MarkSpells.{mark_sound, mark_visible}
 use Rattle.token_core.proofs.Took.{branch, mapped}
 use Rattle.token_core.proofs.Turns.{chain, same_pair}
 use Rattle.syn_path.proofs.Words.{TookOne}
-use Rattle.syn_path.specs.declared.supplied.Place.{Place}
-use Rattle.syn_path.specs.declared.supplied.Place.TheVariants.{Guard}
 use Rattle.syn_attr.specs.attr.Attrs.{Attribute as Attr}
-use Rattle.syn_attr.specs.declared.expr.Expr.{Expr}
 use Rattle.syn_attr.specs.declared.expr.Expr.TheVariants as e
-use Rattle.syn_forms.specs.declared.places.TypePlace.TheVariants.{Plus}
-use Rattle.syn_forms.specs.nested.Below.{ahead, below}
+use Rattle.syn_forms.specs.nested.Below.{below}
 use Rattle.syn_forms.proofs.nested_laws.Below.{out}
 use Rattle.syn_forms.proofs.tokens_laws.Fronts.{took_whole}
 use Rattle.syn_ty.specs.ty.Fronts as types
-use Rattle.syn_ty.specs.ty.Parts.{Manner, loosely, End, Told}
-use Rattle.syn_ty.specs.ty.Spelling.{Relation}
-use Rattle.syn_ty.specs.ty.Trees.{TypeTree}
+use Rattle.syn_ty.specs.ty.Parts.{Told}
 use Rattle.syn_ty.proofs.ty_laws.sound.Leaves.{named_sound}
-use Rattle.syn_path.specs.Took.{Along}
 use Rattle.syn_pat.specs.declared.pat.PatOf.TheVariants as pats
-use Rattle.syn_pat.specs.declared.place.PatPlace.{PatPlace}
-use Rattle.syn_pat.specs.declared.place.PatPlace.TheVariants.{Single, LeadingVert}
 use Rattle.syn_pat.specs.pat.Knot as knot
-use Rattle.syn_pat.specs.pat.Knot.{guard_after, guarded, pat, read_at, typed, typed_over}
+use Rattle.syn_pat.specs.pat.Knot.{guard_after, guarded, read_at, typed, typed_over}
 use Rattle.syn_pat.specs.pat.Fronts as fronts
 use Rattle.syn_pat.specs.pat.Admitted.{IsPatWhere}
 use Rattle.syn_pat.specs.pat.Fronts.{IsSomePat, fronts_to, some_pat_type}
-use Rattle.syn_pat.specs.pat.Pats.{Pat, PatType, guard_of, typed_of}
-use Rattle.syn_pat.specs.pat.Reading.{Readers, type_names}
-use Rattle.syn_pat.specs.pat.Spelling.{outer_spelt, types_to, values_spelt}
-use Rattle.syn_pat.specs.pat.Spelt.{SpellsGuarded, without_guard, with_guard, SpellsPat, SpellsPatType, a_pat_type, pats_to}
+use Rattle.syn_pat.specs.pat.Pats.{guard_of, typed_of}
 use Rattle.syn_pat.proofs.pat_laws.sound.Along.{turn_along}
 use Rattle.syn_pat.proofs.pat_laws.sound.Cases.{turn_took}
 use Rattle.syn_pat.proofs.pat_laws.sound.Colons.{Starts, colon_stops, type_starts}

@@ -2,35 +2,22 @@
 use Rattle.std.proofs.Common.{◌≡◌, ℕ, zero, suc, Bool, true, false, not, ◌&&◌, ◌||◌, ◌⊎◌, ◌==◌, if◌then◌else◌, inl, inr, List, Option, Some, None, is_some, refl, sym, ◌∙◌, ap, subst}
 use Rattle.std.proofs.lemmas.Bool.{eqb-true}
 use Rattle.std.proofs.lemmas.Slice.Eq.{bytes_eq-Decides}
-use Rattle.token_core.specs.declared.tree.Delimiter.TheVariants.{Brace, Parenthesis}
-use Rattle.token_core.specs.declared.tree.Ident.{Ident}
-use Rattle.token_core.specs.declared.tree.Punct.{Punct}
-use Rattle.token_core.specs.Keywords.{is_keyword}
-use Rattle.token_core.specs.Listed.{none_left, last_value, value_and_mark}
-use Rattle.token_core.specs.Lits.{sees_lit}
-use Rattle.token_core.specs.Marks.{text_of}
-use Rattle.token_core.specs.Reads.{after_one, is_ident, is_text, sees_group, sees_mark, sees_word, third}
-use Rattle.token_core.specs.Rebuilt.{Visible}
+use Rattle.syn_pat.proofs.pat_laws.words.Tokens.{Brace, Parenthesis, Ident, Punct, is_keyword, none_left, last_value, value_and_mark, sees_lit, text_of, after_one, is_ident, is_text, sees_group, sees_mark, sees_word, Visible, punct, Bytes, Toks, done, word, mark, lit, group, enter, leave}
+use Rattle.syn_pat.proofs.pat_laws.words.Paths.{Place, is_mod_word}
+use Rattle.syn_pat.proofs.pat_laws.words.Forms.{goes_on}
+use Rattle.syn_pat.proofs.pat_laws.words.Attributes.{Expr}
+use Rattle.syn_pat.proofs.pat_laws.words.Types.{is_none, is_mod_style, AreSegments, IsAnyPath, qualified, unqualified, IsSegment, IsPath, a_path, a_word, a_word_with_arguments, loosely, sees_call, absent, present, Path, PathSegment, QSelf}
+use Rattle.syn_pat.proofs.pat_laws.words.Patterns.{begins_bound, begins_path, sees_bound_path, sees_named_path, sees_self_path, is_binding, is_binding_name, is_self, lone_word, types_to}
+use Rattle.token_core.specs.Reads.{third}
 use Rattle.token_core.specs.Tokens as token
-use Rattle.token_core.specs.Trees.{punct}
-use Rattle.token_core.specs.Toks.{Bytes, Toks, done, word, mark, lit, group, enter, leave}
 use Rattle.syn_path.specs.declared.path.PathStyle.TheVariants.{Expr as expressions}
-use Rattle.syn_path.specs.declared.supplied.Place.{Place}
 use Rattle.syn_path.specs.path.Paths.{lone, path_of}
-use Rattle.syn_path.specs.path.Spelling.{is_mod_word}
 use Rattle.syn_attr.specs.attr.Attrs.{Attribute as Attr}
-use Rattle.syn_attr.specs.declared.expr.Expr.{Expr}
-use Rattle.syn_forms.specs.paths.Reading.{goes_on, with_arguments}
+use Rattle.syn_forms.specs.paths.Reading.{with_arguments}
 use Rattle.syn_ty.specs.declared.path.PathArgumentsOf.TheVariants as a
-use Rattle.syn_ty.specs.path.Paths.{is_none, no_arguments, none_layer}
-use Rattle.syn_ty.specs.path.Reading.{is_mod_style}
-use Rattle.syn_ty.specs.path.Spelling.{AreSegments, IsAnyPath, qualified, unqualified, IsArguments, some_arguments, IsSegment, IsPath, a_path, a_word, a_word_with_arguments}
-use Rattle.syn_ty.specs.ty.Parts.{loosely}
-use Rattle.syn_ty.specs.ty.Reading.{sees_call}
-use Rattle.syn_ty.specs.ty.Spelling.{absent, present}
-use Rattle.syn_ty.specs.ty.Trees.{Path, PathArguments, PathSegment, QSelf}
-use Rattle.syn_pat.specs.pat.Reading.{begins_bound, begins_path, sees_bound_path, sees_named_path, sees_self_path}
-use Rattle.syn_pat.specs.pat.Spelling.{is_binding, is_binding_name, is_self, lone_word, types_to}
+use Rattle.syn_ty.specs.path.Paths.{no_arguments, none_layer}
+use Rattle.syn_ty.specs.path.Spelling.{IsArguments, some_arguments}
+use Rattle.syn_ty.specs.ty.Trees.{PathArguments}
 use Rattle.syn_pat.proofs.pat_laws.sound.Within.{or_none, sees_called, Stops}
 
 -- ---- what a word begins, by its text

@@ -1,39 +1,26 @@
 -- Where const blocks, the ends of ranges and ranges are read, they are spelt; what follows a start is told by what the start spells before it.
 use Rattle.std.proofs.Common.{◌≡◌, Bool, true, false, [], Option, Some, None, Ok, inl, inr, subst}
-use Rattle.token_core.specs.declared.lit.Lit.{Lit}
-use Rattle.token_core.specs.declared.range.RangeLimits.{RangeLimits}
+use Rattle.syn_pat.proofs.pat_laws.words.Tokens.{Lit, RangeLimits, DelimSpan, Brace, sees_lit, Reader, in_group, Visible, IsLit, IsWord, AreLimits, half_open, AreOldLimits, new_limits, Stream, Toks}
+use Rattle.syn_pat.proofs.pat_laws.words.Paths.{Place, Block}
+use Rattle.syn_pat.proofs.pat_laws.words.Attributes.{lit_of, ExprConstOf}
+use Rattle.syn_pat.proofs.pat_laws.words.Types.{Manner, loosely, IsOptional, absent, present, Relation}
+use Rattle.syn_pat.proofs.pat_laws.words.Patterns.{PatPlace, IsSingleWhere, a_const, a_literal, a_range, a_rest, Pat, PatRange, PatRangeBound, pat_range_of, path_pat_of, rest_of, after_bound, begins_bound, bound_or_range, ends_range, qpath, range_after, sees_bound_path, type_names, IsConstBlock, a_const_block, a_pat_path, IsEnd, a_literal_end, a_path_end, a_const_end, IsStart, a_literal_start, a_const_start, IsRange, without_end, without_start, with_both}
 use Rattle.token_core.specs.declared.range.RangeLimits.TheVariants as limits
-use Rattle.token_core.specs.declared.span.DelimSpan.{DelimSpan}
-use Rattle.token_core.specs.declared.tree.Delimiter.TheVariants.{Brace}
 use Rattle.token_core.specs.Groups as groups
-use Rattle.token_core.specs.Lits.{read_lit, sees_lit}
+use Rattle.token_core.specs.Lits.{read_lit}
 use Rattle.token_core.specs.Ranges as ranges
-use Rattle.token_core.specs.Reads.{Reader, in_group}
-use Rattle.token_core.specs.Rebuilt.{Visible}
-use Rattle.token_core.specs.Spellings.{IsLit, IsWord, AreLimits, half_open, AreOldLimits, new_limits}
-use Rattle.token_core.specs.Stream.{Stream}
 use Rattle.token_core.specs.Tokens as token
-use Rattle.token_core.specs.Toks.{Toks}
 use Rattle.token_core.proofs.LimitSpells.{limits_sound, limits_visible, old_limits_sound, old_limits_visible}
 use Rattle.token_core.proofs.LitSpells.{lit_sound, lit_visible}
 use Rattle.token_core.proofs.Took.{branch, mapped}
 use Rattle.token_core.proofs.Turns.{chain, same_pair}
 use Rattle.syn_path.proofs.Words.{TookOne}
-use Rattle.syn_path.specs.declared.supplied.Place.{Place}
-use Rattle.syn_path.specs.declared.supplied.Place.TheVariants.{Block}
-use Rattle.syn_attr.specs.attr.Attrs.{Attribute as Attr, const_of, lit_of}
-use Rattle.syn_attr.specs.declared.expr.ExprConstOf.{ExprConstOf}
+use Rattle.syn_attr.specs.attr.Attrs.{Attribute as Attr, const_of}
 use Rattle.syn_forms.proofs.tokens_laws.Fronts.{plainly, took_as}
-use Rattle.syn_ty.specs.ty.Parts.{Manner, loosely}
-use Rattle.syn_ty.specs.ty.Spelling.{IsOptional, absent, present, Relation}
 use Rattle.syn_ty.proofs.ty_laws.sound.Leaves.{IsHeld, held_sound, named_sound, twice}
 use Rattle.syn_pat.specs.declared.pat.PatOf.TheVariants as v
 use Rattle.syn_pat.specs.declared.pat.PatRangeBoundOf.TheVariants as b
-use Rattle.syn_pat.specs.declared.place.PatPlace.{PatPlace}
-use Rattle.syn_pat.specs.pat.Admitted.{IsSingleWhere, a_const, a_literal, a_range, a_rest}
-use Rattle.syn_pat.specs.pat.Pats.{Pat, PatRange, PatRangeBound, pat_range_of, path_pat_of, rest_of}
-use Rattle.syn_pat.specs.pat.Reading.{after_bound, begins_bound, bound, bound_as_pat, bound_or_range, const_block, ended, ends_range, half_of, half_open as half_open_range, optional_bound, qpath, range, range_after, sees_bound_path, type_names}
-use Rattle.syn_pat.specs.pat.Spelling.{IsConstBlock, a_const_block, a_pat_path, IsEnd, a_literal_end, a_path_end, a_const_end, IsStart, a_literal_start, a_const_start, IsRange, without_end, without_start, with_both}
+use Rattle.syn_pat.specs.pat.Reading.{bound, bound_as_pat, const_block, ended, half_of, half_open as half_open_range, optional_bound, range}
 use Rattle.syn_pat.proofs.pat_laws.sound.Names.{no_path_bound, no_try_bound}
 use Rattle.syn_pat.proofs.pat_laws.sound.Within.{AnyPath, Before, IsSomePath, Stopping, SuppliedTold, TookOn}
 

@@ -1,46 +1,27 @@
 -- Where a single pattern is read, it is spelt, over the same law of the patterns within: it stops where neither `::` before parentheses follows, nor `!=`.
 use Rattle.std.proofs.Common.{◌≡◌, Bool, true, false, not, ◌&&◌, [], Option, Some, None, is_some, Ok, inl, inr, ◌∙◌, ap, subst}
-use Rattle.token_core.specs.declared.span.DelimSpan.{DelimSpan}
-use Rattle.token_core.specs.declared.tree.Delimiter.TheVariants.{Brace, Bracket, Parenthesis}
-use Rattle.token_core.specs.Trees.{TokenStream}
+use Rattle.syn_pat.proofs.pat_laws.words.Tokens.{DelimSpan, Brace, Bracket, Parenthesis, TokenStream, Many, Reader, in_group, sees_group, sees_mark, Visible, Stream, Toks, group}
+use Rattle.syn_pat.proofs.pat_laws.words.Paths.{Macro, Place, nothing, IsBarePath}
+use Rattle.syn_pat.proofs.pat_laws.words.Forms.{goes_on, position}
+use Rattle.syn_pat.proofs.pat_laws.words.Attributes.{expr_macro_of, Expr}
+use Rattle.syn_pat.proofs.pat_laws.words.Types.{is_mod_style, IsAnyPath, unqualified, is_segment_word, Manner, loosely, sees_call, Relation, Path, QSelf, Comma}
+use Rattle.syn_pat.proofs.pat_laws.words.Patterns.{PatPlace, Single, LeadingVert, a_box, IsSingleWhere, a_binding_pat, a_call, a_path, a_struct, a_tuple_struct, a_verbatim, a_wild, Pat, path_pat_of, struct_of, tuple_struct_of, wild_of, Fields, Readers, after_path, begins_bound, begins_path, binding, box_pat, elements, fields, path_pat, qpath, reference, sees_half_open, single, slice, type_names, IsHead, a_pat_path, a_path_start, types_to}
 use Rattle.token_core.specs.Groups as groups
-use Rattle.token_core.specs.Loops.{Many}
-use Rattle.token_core.specs.Reads.{Reader, in_group, sees_group, sees_mark}
-use Rattle.token_core.specs.Rebuilt.{Visible}
-use Rattle.token_core.specs.Stream.{Stream}
 use Rattle.token_core.specs.Tokens as token
-use Rattle.token_core.specs.Toks.{Toks, group}
 use Rattle.token_core.proofs.Suffixes.{follows_trans}
 use Rattle.token_core.proofs.Took.{branch, mapped}
 use Rattle.token_core.proofs.Turns.{chain}
 use Rattle.syn_path.proofs.Words.{TookOne}
-use Rattle.syn_path.specs.declared.mac.Macro.{Macro}
 use Rattle.syn_path.specs.declared.path.PathStyle.TheVariants.{Expr as expressions}
-use Rattle.syn_path.specs.declared.supplied.Place.{Place}
 use Rattle.syn_path.specs.mac.Reading as macs
-use Rattle.syn_path.specs.path.Paths.{nothing, without}
-use Rattle.syn_path.specs.path.Spelling.{IsBarePath}
-use Rattle.syn_attr.specs.attr.Attrs.{Attribute as Attr, expr_macro_of}
-use Rattle.syn_attr.specs.declared.expr.Expr.{Expr}
-use Rattle.syn_forms.specs.paths.Reading.{goes_on}
-use Rattle.syn_forms.specs.verbatim.Reading.{position, since}
-use Rattle.syn_ty.specs.path.Reading.{is_mod_style}
-use Rattle.syn_ty.specs.path.Spelling.{IsAnyPath, unqualified, is_segment_word}
-use Rattle.syn_ty.specs.ty.Parts.{Manner, loosely}
-use Rattle.syn_ty.specs.ty.Reading.{sees_call}
-use Rattle.syn_ty.specs.ty.Spelling.{Relation}
-use Rattle.syn_ty.specs.ty.Trees.{Path, QSelf}
-use Rattle.syn_ty.specs.ty.Types.{Comma}
+use Rattle.syn_path.specs.path.Paths.{without}
+use Rattle.syn_attr.specs.attr.Attrs.{Attribute as Attr}
+use Rattle.syn_forms.specs.verbatim.Reading.{since}
 use Rattle.syn_ty.proofs.ty_laws.sound.Held.{holds_since}
 use Rattle.syn_ty.proofs.ty_laws.sound.Leaves.{IsHeld, held_sound, named_sound, twice}
 use Rattle.syn_pat.specs.declared.pat.PatOf.TheVariants as pat
 use Rattle.syn_pat.specs.declared.pat.PatRangeBoundOf.TheVariants as bounds
-use Rattle.syn_pat.specs.declared.place.PatPlace.{PatPlace}
-use Rattle.syn_pat.specs.declared.place.PatPlace.TheVariants.{Single, LeadingVert}
-use Rattle.syn_pat.specs.pat.Admitted.{a_box, IsSingleWhere, a_binding_pat, a_call, a_path, a_struct, a_tuple_struct, a_verbatim, a_wild}
-use Rattle.syn_pat.specs.pat.Pats.{Pat, path_pat_of, struct_of, tuple_struct_of, wild_of}
-use Rattle.syn_pat.specs.pat.Reading.{Fields, Readers, after_path, begins_binding, begins_bound, begins_path, binding, box_pat, by_mark, by_word, elements, fields, path_pat, qpath, reference, sees_half_open, single, slice, struct_after, tuple_struct_after, type_names}
-use Rattle.syn_pat.specs.pat.Spelling.{IsHead, a_pat_path, a_path_start, types_to}
+use Rattle.syn_pat.specs.pat.Reading.{begins_binding, by_mark, by_word, struct_after, tuple_struct_after}
 use Rattle.syn_pat.proofs.pat_laws.sound.Bindings.{AllOf, binding_took, elements_sound, paren_took, reference_took, slice_took}
 use Rattle.syn_pat.proofs.pat_laws.sound.Calls.{call_took, path_bare, path_ends}
 use Rattle.syn_pat.proofs.pat_laws.sound.Fields.{All, fields_sound}

@@ -1,29 +1,21 @@
 -- Over the laws of a supplied subtree each whole read of a pattern, of a pattern with a guard and of one with a type is sound.
 use Rattle.std.proofs.Common.{◌≡◌, suc, None, Ok, sym, ◌∙◌, ap}
-use Rattle.token_core.specs.Prints.{Print}
-use Rattle.token_core.specs.Reads.{Reader, leaves}
-use Rattle.token_core.specs.Stream.{Stream}
-use Rattle.token_core.specs.Toks.{Toks}
+use Rattle.syn_pat.proofs.pat_laws.words.Tokens.{Print, Reader, leaves, Stream, Toks}
+use Rattle.syn_pat.proofs.pat_laws.words.Paths.{Place, Block, Guard, Reprints, SameOutcome, UsesUp}
+use Rattle.syn_pat.proofs.pat_laws.words.Forms.{Plus}
+use Rattle.syn_pat.proofs.pat_laws.words.Attributes.{outer}
+use Rattle.syn_pat.proofs.pat_laws.words.Types.{loosely}
+use Rattle.syn_pat.proofs.pat_laws.words.Patterns.{PatPlace, values, type_names, outer_spelt, values_spelt, SpellsGuarded, SpellsPat, SpellsPatType}
 use Rattle.token_core.proofs.Turns.{same_pair}
 use Rattle.syn_path.specs.declared.path.PathStyle.TheVariants.{Expr as expressions}
-use Rattle.syn_path.specs.declared.supplied.Place.{Place}
-use Rattle.syn_path.specs.declared.supplied.Place.TheVariants.{Block, Guard}
-use Rattle.syn_path.specs.Supplied.{Reprints, SameOutcome, UsesUp}
 use Rattle.syn_attr.specs.attr.Lengths.{length_laws}
-use Rattle.syn_attr.specs.attr.Reading.{outer}
 use Rattle.syn_attr.specs.attr.Told.{attributes_told, consts_told}
-use Rattle.syn_forms.specs.declared.places.TypePlace.TheVariants.{Plus}
 use Rattle.syn_forms.proofs.tokens_laws.Fronts.{nothing_left}
 use Rattle.syn_ty.proofs.ty_laws.sound.Alone.{maybe_qualified_took, ty_took}
 use Rattle.syn_ty.proofs.ty_laws.sound.AlongAlone.{lone_maybe_qualified}
 use Rattle.syn_ty.proofs.ty_laws.Given.{Given, given}
 use Rattle.syn_ty.proofs.ty_laws.sound.Whole.{Whole}
-use Rattle.syn_pat.specs.declared.place.PatPlace.{PatPlace}
 use Rattle.syn_pat.specs.pat.Knot as knot
-use Rattle.syn_pat.specs.pat.Reading.{values, type_names}
-use Rattle.syn_pat.specs.pat.Spelling.{outer_spelt, values_spelt}
-use Rattle.syn_pat.specs.pat.Spelt.{SpellsGuarded, SpellsPat, SpellsPatType}
-use Rattle.syn_ty.specs.ty.Parts.{loosely}
 use Rattle.syn_pat.proofs.pat_laws.sound.Knot as told
 use Rattle.syn_pat.proofs.pat_laws.sound.Within.{SuppliedTold}
 

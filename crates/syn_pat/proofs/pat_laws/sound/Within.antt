@@ -1,37 +1,20 @@
 -- What is known of the reads that a pattern holds: each took what its answer spells, where nothing follows that a lone word was taken for a path by; and the same of paths, types, attributes and supplied subtrees.
 use Rattle.std.proofs.Common.{◌≡◌, ℕ, Bool, true, false, not, ◌&&◌, ◌||◌, ◌⊎◌, ◌==◌, if◌then◌else◌, inl, inr, List, Option, None, is_some, Ok, refl, ap}
 use Rattle.std.proofs.lemmas.Bool.{eqb-true}
-use Rattle.token_core.specs.declared.tree.Punct.{Punct}
-use Rattle.token_core.specs.declared.word.Word.{Word}
-use Rattle.token_core.specs.Listed.{AreListed, none_left, last_value, value_and_mark}
-use Rattle.token_core.specs.Reads.{Reader, leaves, sees_mark}
-use Rattle.token_core.specs.Rebuilt.{Visible}
-use Rattle.token_core.specs.Spellings.{last_char, IsMark, is_mark, IsWord, is_word}
-use Rattle.token_core.specs.Stream.{Stream}
+use Rattle.syn_pat.proofs.pat_laws.words.Tokens.{Punct, Word, AreListed, none_left, last_value, value_and_mark, Reader, leaves, sees_mark, Visible, last_char, IsMark, is_mark, IsWord, is_word, Stream, Toks, done, word, mark, lit, group, enter, leave, punct}
+use Rattle.syn_pat.proofs.pat_laws.words.Paths.{Place, Block, Guard, Along}
+use Rattle.syn_pat.proofs.pat_laws.words.Forms.{Plus}
+use Rattle.syn_pat.proofs.pat_laws.words.Attributes.{outer, Expr}
+use Rattle.syn_pat.proofs.pat_laws.words.Types.{IsAnyPath, Manner, loosely, Relation, Path, QSelf, TypeTree}
+use Rattle.syn_pat.proofs.pat_laws.words.Patterns.{PatPlace, Attrs, Pat, Readers, qpath, outer_spelt, types_to}
 use Rattle.token_core.specs.Tokens as token
-use Rattle.token_core.specs.Toks.{Toks, done, word, mark, lit, group, enter, leave}
-use Rattle.token_core.specs.Trees.{punct}
 use Rattle.syn_path.proofs.Words.{TookOne}
 use Rattle.syn_path.specs.declared.path.PathStyle.TheVariants.{Expr as expressions}
-use Rattle.syn_path.specs.declared.supplied.Place.{Place}
-use Rattle.syn_path.specs.declared.supplied.Place.TheVariants.{Block, Guard}
 use Rattle.syn_attr.specs.attr.Attrs.{Attribute as Attr}
-use Rattle.syn_attr.specs.attr.Reading.{outer}
-use Rattle.syn_attr.specs.declared.expr.Expr.{Expr}
-use Rattle.syn_forms.specs.declared.places.TypePlace.TheVariants.{Plus}
-use Rattle.syn_ty.specs.path.Spelling.{IsAnyPath}
-use Rattle.syn_ty.specs.ty.Parts.{Manner, loosely}
-use Rattle.syn_ty.specs.ty.Spelling.{Relation}
-use Rattle.syn_ty.specs.ty.Trees.{Path, QSelf, TypeTree}
 use Rattle.syn_ty.proofs.ty_laws.sound.Forms.{Told}
-use Rattle.syn_path.specs.Took.{Along}
-use Rattle.syn_pat.specs.declared.place.PatPlace.{PatPlace}
 use Rattle.syn_pat.specs.pat.Knot as knot
 pub use Rattle.syn_pat.specs.pat.Fronts.{sees_called, is_lone}
 use Rattle.syn_pat.specs.pat.Admitted.{nowhere}
-use Rattle.syn_pat.specs.pat.Pats.{Attrs, Pat}
-use Rattle.syn_pat.specs.pat.Reading.{Readers, qpath}
-use Rattle.syn_pat.specs.pat.Spelling.{outer_spelt, types_to}
 
 -- ---- truths joined by `or` and `and`
 

@@ -16,5 +16,5 @@ returns-in_err-generics g c =
     let was : c.taken.result ≡ Err e = first_of (search rules, grind (arith, common_steps)) in
     let back : c.from_residual.result ≡ Err e = first_of (search rules, grind (arith, common_steps)) in
     refused-prints (Gives {A = GenericsOf g.row.A.Denot g.row.E.Denot} (alone.generics g.A.Attributes.reads g.E.Value.reads)) (Fails (alone.generics g.A.Attributes.reads g.E.Value.reads))
-    (Headline (promises.generics {A = g.row.A.Denot} g.A.Attributes.reads g.E.Value.reads g.A.Attributes.spells g.E.Value.spells g.A.Attributes.normal g.E.Value.normal g.A.Attributes.shown g.E.Value.values))
+    (Headline (promises.generics {A = g.row.A.Denot} g.A.Attributes g.E.Value))
     (views.turbofish {A = g.row.A.Denot} {E = g.row.E.Denot}) c.args.scope (toks c.args.tokens) c.taken.result c.from_residual.result e was back c.taken.ensures.reads c.taken.ensures.promise

@@ -9,7 +9,7 @@ use Rattle.syn_run.proofs.call.read_by.Goals as goal
 
 pub returns-in-Ok : goal.returns-in-Ok
 returns-in-Ok g c =
-    let C = category g.X.Subtree.reads g.X.Subtree.spells g.X.Subtree.normal g.X.Subtree.prints c.args.reader in
+    let C = category g.X.Subtree c.args.reader in
     let t = c.as_str.result.now in
     record {
       came = told t;
@@ -19,7 +19,7 @@ returns-in-Ok g c =
 
 pub returns-in-Err : goal.returns-in-Err
 returns-in-Err g c =
-    let C = category g.X.Subtree.reads g.X.Subtree.spells g.X.Subtree.normal g.X.Subtree.prints c.args.reader in
+    let C = category g.X.Subtree c.args.reader in
     let e = c.in-Err.refusal in
     record {
       came = refused e;

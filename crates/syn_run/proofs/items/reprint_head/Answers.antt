@@ -14,7 +14,7 @@ returns-in_err-item g c =
     let e = c.in_err-item.field-0.0 in
     let was : c.taken.result ≡ Err e = first_of (search rules, grind (arith, common_steps)) in
     let back : c.from_residual.result ≡ Err e = first_of (search rules, grind (arith, common_steps)) in
-    let G = (parts.item {A = g.row.A.Denot} {E = g.row.E.Denot} g.A.Attributes.reads g.E.Value.reads g.A.Attributes.spells g.E.Value.spells g.A.Attributes.normal g.E.Value.normal g.A.Attributes.shown g.E.Value.values).grammar in
+    let G = (parts.item {A = g.row.A.Denot} {E = g.row.E.Denot} g.A.Attributes g.E.Value).grammar in
     refused-prints (Gives G.reader) (Fails G.reader) (Headline G) (spec.marker_head g.A.Attributes.shown g.E.Value.values)
     c.args.scope (toks c.args.tokens) c.taken.result c.from_residual.result e was back c.taken.ensures.reads c.taken.ensures.promise
 

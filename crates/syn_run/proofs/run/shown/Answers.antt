@@ -10,11 +10,11 @@ use Rattle.syn_run.proofs.Said.{of_bytes, of_reply}
 use Rattle.syn_run.proofs.run.shown.Goals as goal
 
 pub returns-in-Err : goal.returns-in-Err
-returns-in-Err g c = of_bytes (category g.X.Subtree.reads g.X.Subtree.spells g.X.Subtree.normal g.X.Subtree.prints c.args.reader) none c.args.input.now c.in-Err.ensures.cases.0
+returns-in-Err g c = of_bytes (category g.X.Subtree c.args.reader) none c.args.input.now c.in-Err.ensures.cases.0
 
 pub returns-in_err-reprinted-in-Ok : goal.returns-in_err-reprinted-in-Ok
 returns-in_err-reprinted-in-Ok g c =
-    let C = category g.X.Subtree.reads g.X.Subtree.spells g.X.Subtree.normal g.X.Subtree.prints c.args.reader in
+    let C = category g.X.Subtree c.args.reader in
     let e = c.in_err-reprinted-in-Ok.field-0.0 in
     let p = err_from_is_err_and c.from_residual.result c.from_residual.ensures.1 in
     let In : Span → Type 0 = λ s. Replies C s c.in-Ok.text.now (string_bytes {Z = Global}) (Err e) in

@@ -1,43 +1,17 @@
 -- Each reader of this layer by itself on the front of a list is complete: at every height of a tree, what is spelt clearly there is what it answers, and it takes no more.
 use Rattle.std.proofs.Common.{◌≡◌, ℕ, ◌≤◌, Bool, true, false, List, Option, None, is_some, refl, arith}
-use Rattle.token_core.specs.declared.span.Span.{Span}
-use Rattle.token_core.specs.Reads.{Reader}
-use Rattle.token_core.specs.Stream.{Scope}
+use Rattle.syn_ty.proofs.ty_laws.words.Tokens.{Span, Reader, Scope, Toks}
+use Rattle.syn_ty.proofs.ty_laws.words.Paths.{PathStyle, AsWritten, Expr, sees_sep, ReadValues, SpelledValues}
+use Rattle.syn_ty.proofs.ty_laws.words.Forms.{BoundPlace, Object, ParamPlace, TypePlace, NoPlus, Plus, ahead, sees_arguments, allows_plus}
+use Rattle.syn_ty.proofs.ty_laws.words.Types.{IsBound, IsFor, IsTraitBound, IsConstParam, IsParam, IsTypeParam, ArgumentPlace, IsArgument, IsParens, IsReturn, IsAngle, IsAnyPath, IsArguments, IsPath, IsSegment, Styled, IsBorrow, IsBracketed, IsCounted, IsEnclosed, IsPointer, IsTupled, IsType, IsFnPtr, IsNamedArg, reads_below, IsImpl, IsObject, Manner, clearly, End, Parts, Readers, IsOptional, IsPathAlone, spelt_to, AngleBracketed, BoundLifetimes, ConstParam, GenericArgument, GenericParam, NamedArg, Parenthesized, Path, PathArguments, PathSegment, QSelf, ReturnType, TraitBound, TypeArray, TypeFnPtr, TypeImplTrait, TypeParam, TypeParamBound, TypeParen, TypePath, TypePtr, TypeReference, TypeSlice, TypeTraitObject, TypeTree, TypeTuple}
 use Rattle.token_core.specs.Tokens as token
-use Rattle.token_core.specs.Toks.{Toks}
 use Rattle.token_core.proofs.Steps.{Reads_to}
 use Rattle.token_core.proofs.Took.{at}
-use Rattle.syn_path.specs.declared.path.PathStyle.{PathStyle}
-use Rattle.syn_path.specs.declared.path.PathStyle.TheVariants.{AsWritten, Expr}
-use Rattle.syn_path.specs.path.Reading.{sees_sep}
-use Rattle.syn_path.specs.Values.{ReadValues, SpelledValues}
-use Rattle.syn_forms.specs.declared.places.BoundPlace.{BoundPlace}
-use Rattle.syn_forms.specs.declared.places.BoundPlace.TheVariants.{Object}
-use Rattle.syn_forms.specs.declared.places.ParamPlace.{ParamPlace}
-use Rattle.syn_forms.specs.declared.places.TypePlace.{TypePlace}
-use Rattle.syn_forms.specs.declared.places.TypePlace.TheVariants.{NoPlus, Plus}
-use Rattle.syn_forms.specs.nested.Below.{ahead}
-use Rattle.syn_forms.specs.paths.Reading.{sees_arguments}
-use Rattle.syn_forms.specs.places.Reading.{allows_plus}
-use Rattle.syn_ty.specs.generics.Bounds.{IsBound, IsFor, IsTraitBound}
-use Rattle.syn_ty.specs.generics.Parameters.{IsConstParam, IsParam, IsTypeParam}
 use Rattle.syn_ty.specs.generics.Reading as generics
 use Rattle.syn_ty.specs.path.Alone as paths
-use Rattle.syn_ty.specs.path.Arguments.{ArgumentPlace, IsArgument}
 use Rattle.syn_ty.specs.path.Reading as reads
-use Rattle.syn_ty.specs.path.Signed.{IsParens, IsReturn}
-use Rattle.syn_ty.specs.path.Spelling.{IsAngle, IsAnyPath, IsArguments, IsPath, IsSegment, Styled}
-use Rattle.syn_ty.specs.ty.Admitted.{IsBorrow, IsBracketed, IsCounted, IsEnclosed, IsPointer, IsTupled, IsType}
-use Rattle.syn_ty.specs.ty.Functions.{IsFnPtr, IsNamedArg}
 use Rattle.syn_ty.specs.ty.Knot as knot
-use Rattle.syn_ty.specs.ty.Knot.{reads_below}
-use Rattle.syn_ty.specs.ty.Objects.{IsImpl, IsObject}
-use Rattle.syn_ty.specs.ty.Parts.{Manner, clearly, End, Parts}
-use Rattle.syn_ty.specs.ty.Points.{Readers}
 use Rattle.syn_ty.specs.ty.Reading as reading
-use Rattle.syn_ty.specs.ty.Spelling.{IsOptional}
-use Rattle.syn_ty.specs.ty.Spelt.{IsPathAlone, spelt_to}
-use Rattle.syn_ty.specs.ty.Trees.{AngleBracketed, BoundLifetimes, ConstParam, GenericArgument, GenericParam, NamedArg, Parenthesized, Path, PathArguments, PathSegment, QSelf, ReturnType, TraitBound, TypeArray, TypeFnPtr, TypeImplTrait, TypeParam, TypeParamBound, TypeParen, TypePath, TypePtr, TypeReference, TypeSlice, TypeTraitObject, TypeTree, TypeTuple}
 use Rattle.syn_ty.proofs.ty_laws.complete.Angles as angles
 use Rattle.syn_ty.proofs.ty_laws.complete.Arguments.{EndsArgument}
 use Rattle.syn_ty.proofs.ty_laws.complete.Forms as forms

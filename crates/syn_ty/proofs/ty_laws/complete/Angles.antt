@@ -1,34 +1,21 @@
 -- Arguments in angle brackets that a list spells clearly are what their reads answer, over the reads of the arguments: with a `::` or without it, and as the arguments of a segment.
 use Rattle.std.proofs.Common.{◌≡◌, ℕ, ◌<◌, ◌≤◌, Bool, true, false, not, List, Option, Some, None, refl, sym, ◌∙◌, ap, arith}
 use Rattle.std.proofs.lemmas.Bool.{true≢false, and_from, or_left, or_right}
-use Rattle.token_core.specs.declared.span.Span.{Span}
-use Rattle.token_core.specs.Listed.{AreListed, Anywhere, none_left, last_value, value_and_mark}
-use Rattle.token_core.specs.Loops.{terminated}
-use Rattle.token_core.specs.Reads.{after_one, optional, sees_mark}
-use Rattle.token_core.specs.Spans.{none}
-use Rattle.token_core.specs.Spellings.{IsMark, is_mark, last_char, more_chars}
-use Rattle.token_core.specs.Stream.{Scope}
+use Rattle.syn_ty.proofs.ty_laws.words.Tokens.{Span, AreListed, Anywhere, none_left, last_value, value_and_mark, terminated, after_one, optional, sees_mark, none, IsMark, is_mark, last_char, more_chars, Scope, Toks}
+use Rattle.syn_ty.proofs.ty_laws.words.Paths.{AsWritten, Expr, sees_sep, sep}
+use Rattle.syn_ty.proofs.ty_laws.words.Forms.{ahead, sees_arguments, sees_turbofish, comma, sees_gt}
+use Rattle.syn_ty.proofs.ty_laws.words.Types.{Sep, angle_of, arguments_step, ends_constraint, Styled, IsAngle, an_angle, IsArguments, Manner, clearly, Parts, Readers, an_argument, IsOptional, absent, present, AngleBracketed, GenericArgument, PathArguments}
 use Rattle.token_core.specs.Tokens as token
-use Rattle.token_core.specs.Toks.{Toks}
 use Rattle.token_core.proofs.MarkSpells.{mark_complete, mark_seen, mark_size}
 use Rattle.token_core.proofs.Steps.{Reads_to, chosen, link}
 use Rattle.token_core.proofs.Took.{at}
 use Rattle.token_core.proofs.Unseen.{lt_apart, lt_no_shift}
-use Rattle.syn_path.specs.declared.path.PathStyle.TheVariants.{AsWritten, Expr}
-use Rattle.syn_path.specs.path.Reading.{sees_angle, sees_sep, sep}
+use Rattle.syn_path.specs.path.Reading.{sees_angle}
 use Rattle.syn_forms.specs.heads.Reading as heads
-use Rattle.syn_forms.specs.nested.Below.{ahead}
-use Rattle.syn_forms.specs.paths.Reading.{sees_arguments, sees_turbofish}
-use Rattle.syn_forms.specs.tokens.Reading.{comma, sees_gt}
 use Rattle.syn_forms.proofs.lists_laws.Complete.{listed_here}
 use Rattle.syn_forms.proofs.nested_laws.Ahead.{ahead-is, weight}
-use Rattle.syn_ty.specs.path.Paths.{Sep, angle_of}
-use Rattle.syn_ty.specs.path.Reading.{angle_bracketed, arguments_after, arguments_step, ends_constraint, turbofish}
-use Rattle.syn_ty.specs.path.Spelling.{Styled, IsAngle, an_angle, IsArguments, some_arguments}
-use Rattle.syn_ty.specs.ty.Parts.{Manner, clearly, Parts}
-use Rattle.syn_ty.specs.ty.Points.{Readers, an_argument}
-use Rattle.syn_ty.specs.ty.Spelling.{IsOptional, absent, present}
-use Rattle.syn_ty.specs.ty.Trees.{AngleBracketed, GenericArgument, PathArguments}
+use Rattle.syn_ty.specs.path.Reading.{angle_bracketed, arguments_after, turbofish}
+use Rattle.syn_ty.specs.path.Spelling.{some_arguments}
 use Rattle.syn_ty.proofs.ty_laws.complete.Leaves.{comma_light, later, not_more}
 use Rattle.syn_ty.proofs.ty_laws.complete.Within.{Firsts, Less, Meets, NoMore}
 

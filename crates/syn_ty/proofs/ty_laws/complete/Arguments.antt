@@ -2,49 +2,21 @@
 use Rattle.std.proofs.lemmas.Bool.{eqb-true}
 use Rattle.std.proofs.lemmas.Slice.Eq.{bytes_eq-Decides}
 use Rattle.std.proofs.Common.{◌≡◌, ℕ, ◌<◌, ◌≤◌, Bool, true, false, not, ◌==◌, ◌&&◌, ◌||◌, if◌then◌else◌, List, [], ◌∷◌, Option, Some, None, is_some, refl, sym, ◌∙◌, ap}
-use Rattle.token_core.specs.declared.lifetime.Lifetime.{Lifetime}
-use Rattle.token_core.specs.declared.lit.Lit.{Lit}
-use Rattle.token_core.specs.declared.span.Span.{Span}
-use Rattle.token_core.specs.declared.tree.Ident.{Ident}
-use Rattle.token_core.specs.declared.tree.Punct.{Punct}
-use Rattle.token_core.specs.Keywords.{is_keyword}
-use Rattle.token_core.specs.Lifetimes.{read_lifetime, sees_lifetime, with_ident}
+use Rattle.syn_ty.proofs.ty_laws.words.Tokens.{Lifetime, Lit, Span, Ident, Punct, is_keyword, read_lifetime, sees_lifetime, with_ident, sees_lit, Many, Reader, after_one, is_done, is_ident, is_joint, is_text, second, sees_group, sees_word, IsMark, IsLifetime, is_lifetime, Scope, Bytes, Toks, done, word, mark, lit, group, enter, leave, last_value}
+use Rattle.syn_ty.proofs.ty_laws.words.Paths.{segment_of, path_of, is_mod_word, ReadValues}
+use Rattle.syn_ty.proofs.ty_laws.words.Forms.{Parameter, Plus, bounds_to, ahead, with_arguments}
+use Rattle.syn_ty.proofs.ty_laws.words.Types.{out-PathArgumentsOf, out-roll-TypePathOf, ArgumentPlace, alone, between_angles, ConstraintEnds, IsItemName, an_item, an_item_with_arguments, IsArgument, a_lifetime_argument, a_type_argument, a_const_argument, an_assoc_type, an_assoc_const, a_constraint, assoc_const_of, assoc_type_of, constraint_of, no_arguments, ItemName, after_type, argument_step, ends_constraint, generics_layer, item_of_path, sees_const, sees_lone_lifetime, with_name, is_segment_word, a_word, a_word_with_arguments, a_path, unqualified, IsType, a_path_type, Manner, clearly, End, closed, Parts, Readers, a_bound, a_type, Relation, absent, AngleBracketed, GenericArgument, Path, PathArguments, PathSegment, TypeParamBound, TypeTree, qualified_with}
 use Rattle.token_core.specs.Lifetimes as lifetimes
-use Rattle.token_core.specs.Lits.{false_text, past_number, next_lit, sees_lit, true_text}
-use Rattle.token_core.specs.Loops.{Many}
-use Rattle.token_core.specs.Reads.{Reader, after_one, is_done, is_ident, is_joint, is_text, second, sees_group, sees_word}
-use Rattle.token_core.specs.Spellings.{IsMark, IsLifetime, is_lifetime}
-use Rattle.token_core.specs.Stream.{Scope}
+use Rattle.token_core.specs.Lits.{false_text, past_number, next_lit, true_text}
 use Rattle.token_core.specs.Tokens as token
-use Rattle.token_core.specs.Toks.{Bytes, Toks, done, word, mark, lit, group, enter, leave}
 use Rattle.token_core.proofs.Steps.{link, chosen, Reads_to}
 use Rattle.token_core.proofs.Took.{at}
 use Rattle.token_core.proofs.Unseen.{colon_apart}
 use Rattle.token_core.proofs.WordSpells.{lifetime_complete}
-use Rattle.token_core.specs.Listed.{last_value}
-use Rattle.syn_path.specs.path.Paths.{segment_of, path_of}
-use Rattle.syn_path.specs.path.Spelling.{is_mod_word}
-use Rattle.syn_path.specs.Values.{ReadValues}
-use Rattle.syn_forms.specs.declared.places.BoundPlace.TheVariants.{Parameter}
-use Rattle.syn_forms.specs.declared.places.TypePlace.TheVariants.{Plus}
-use Rattle.syn_forms.specs.lists.Reading.{bounds_to}
-use Rattle.syn_forms.specs.nested.Below.{ahead}
-use Rattle.syn_forms.specs.paths.Reading.{with_arguments}
 use Rattle.syn_ty.specs.declared.path.GenericArgumentOf.TheVariants as k
 use Rattle.syn_ty.specs.declared.path.PathArgumentsOf.TheVariants as a
-use Rattle.syn_ty.specs.declared.path.PathArgumentsOf.{out-PathArgumentsOf}
 use Rattle.syn_ty.specs.declared.ty.TypeOf.TheVariants as form
-use Rattle.syn_ty.specs.declared.ty.TypePathOf.{out-roll-TypePathOf}
-use Rattle.syn_ty.specs.path.Arguments.{ArgumentPlace, alone, between_angles, ConstraintEnds, IsItemName, an_item, an_item_with_arguments, IsArgument, a_lifetime_argument, a_type_argument, a_const_argument, an_assoc_type, an_assoc_const, a_constraint}
-use Rattle.syn_ty.specs.path.Paths.{assoc_const_of, assoc_type_of, constraint_of, no_arguments}
-use Rattle.syn_ty.specs.path.Reading.{ItemName, after_item, after_type, argument_step, assoc, constraint, ends_constraint, generics_layer, item_layer, item_of, item_of_path, item_of_path_layer, sees_const, sees_lone_lifetime, with_name}
-use Rattle.syn_ty.specs.path.Spelling.{is_segment_word, a_word, a_word_with_arguments, a_path, unqualified}
-use Rattle.syn_ty.specs.ty.Admitted.{IsType, a_path_type}
-use Rattle.syn_ty.specs.ty.Parts.{Manner, clearly, End, closed, Parts}
-use Rattle.syn_ty.specs.ty.Points.{Readers, a_bound, a_type}
-use Rattle.syn_ty.specs.ty.Spelling.{Relation, absent}
-use Rattle.syn_ty.specs.ty.Trees.{AngleBracketed, GenericArgument, Path, PathArguments, PathSegment, TypeParamBound, TypeTree}
-use Rattle.syn_ty.specs.ty.Types.{qualified_with}
+use Rattle.syn_ty.specs.path.Reading.{after_item, assoc, constraint, item_layer, item_of, item_of_path_layer}
 use Rattle.syn_ty.proofs.ty_laws.complete.Leaves.{later}
 use Rattle.syn_ty.proofs.ty_laws.complete.Less.{less_less, word_less}
 use Rattle.syn_ty.proofs.ty_laws.complete.Within.{Fits, Less, TypeBegins, BoundBegins, Meets, SuppliedMeets}

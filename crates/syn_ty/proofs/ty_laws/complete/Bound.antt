@@ -1,41 +1,19 @@
 -- A bound in its place, spelt clearly, is what its read answers and all that it takes: a lifetime, a capture, or a trait bound, also in parentheses.
 use Rattle.std.proofs.Common.{◌≡◌, ℕ, ◌≤◌, true, false, [], Option, Some, None, Ok, refl, ap, arith}
-use Rattle.token_core.specs.declared.span.DelimSpan.{DelimSpan}
-use Rattle.token_core.specs.declared.span.Span.{Span}
-use Rattle.token_core.specs.declared.token.Paren.{Paren}
-use Rattle.token_core.specs.declared.tree.Delimiter.TheVariants.{Parenthesis}
+use Rattle.syn_ty.proofs.ty_laws.words.Tokens.{DelimSpan, Span, Paren, Parenthesis, sees_lifetime, sees_group, sees_mark, sees_word, none, IsMark, is_word, Scope, Toks, done, group}
+use Rattle.syn_ty.proofs.ty_laws.words.Forms.{BoundPlace, ahead, allows_const}
+use Rattle.syn_ty.proofs.ty_laws.words.Types.{PreciseCapture, out-roll-TraitBoundOf, TraitBoundModifiers, IsCapture, a_capture, IsFor, IsTrait, IsTraitBound, a_trait_bound, IsBound, a_lifetime_bound, a_bare_bound, a_bound_in_parens, a_capture_bound, held_bound, trait_bound_of, binder, trait_in, Sep, angle_of, parenthesized, IsParens, Manner, clearly, End, Parts, Readers, sees_call, IsOptional, BoundLifetimes, Parenthesized, Path, TraitBound, TypeParamBound}
 use Rattle.token_core.specs.Groups as groups
-use Rattle.token_core.specs.Lifetimes.{sees_lifetime}
-use Rattle.token_core.specs.Reads.{sees_group, sees_mark, sees_word}
-use Rattle.token_core.specs.Spans.{none}
-use Rattle.token_core.specs.Spellings.{IsMark, is_word}
-use Rattle.token_core.specs.Stream.{Scope}
 use Rattle.token_core.specs.Tokens as token
-use Rattle.token_core.specs.Toks.{Toks, done, group}
 use Rattle.token_core.proofs.Steps.{link, chosen, Reads_to}
 use Rattle.token_core.proofs.Took.{at, leaves_none}
 use Rattle.token_core.proofs.WordSpells.{lifetime_complete, lifetime_seen}
-use Rattle.syn_forms.specs.declared.places.BoundPlace.{BoundPlace}
-use Rattle.syn_forms.specs.nested.Below.{ahead}
-use Rattle.syn_forms.specs.places.Reading.{allows_const, allows_capture}
+use Rattle.syn_forms.specs.places.Reading.{allows_capture}
 use Rattle.syn_forms.proofs.groups_laws.Complete.{content, content_ahead, reads_inside}
-use Rattle.syn_ty.specs.declared.generics.PreciseCapture.{PreciseCapture}
-use Rattle.syn_ty.specs.declared.generics.TraitBoundOf.{out-roll-TraitBoundOf}
-use Rattle.syn_ty.specs.declared.generics.TraitBoundModifiers.{TraitBoundModifiers}
 use Rattle.syn_ty.specs.declared.generics.TypeParamBoundOf.TheVariants as b
 use Rattle.syn_ty.specs.declared.path.PathArgumentsOf.TheVariants as a
-use Rattle.syn_ty.specs.generics.Bounds.{IsCapture, a_capture, IsFor, IsTrait, IsTraitBound, a_trait_bound, IsBound, a_lifetime_bound, a_bare_bound, a_bound_in_parens, a_capture_bound}
-use Rattle.syn_ty.specs.generics.Params.{held_bound, held_layer, trait_bound_of}
+use Rattle.syn_ty.specs.generics.Params.{held_layer}
 use Rattle.syn_ty.specs.generics.Reading as reading
-use Rattle.syn_ty.specs.generics.Reading.{binder, trait_in}
-use Rattle.syn_ty.specs.path.Paths.{Sep, angle_of}
-use Rattle.syn_ty.specs.path.Reading.{parenthesized}
-use Rattle.syn_ty.specs.path.Signed.{IsParens}
-use Rattle.syn_ty.specs.ty.Parts.{Manner, clearly, End, Parts}
-use Rattle.syn_ty.specs.ty.Points.{Readers}
-use Rattle.syn_ty.specs.ty.Reading.{sees_call}
-use Rattle.syn_ty.specs.ty.Spelling.{IsOptional}
-use Rattle.syn_ty.specs.ty.Trees.{BoundLifetimes, Parenthesized, Path, TraitBound, TypeParamBound}
 use Rattle.syn_ty.proofs.ty_laws.complete.Capture.{capture_met}
 use Rattle.syn_ty.proofs.ty_laws.complete.Within.{Fits, Meets, PathsMeet}
 use Rattle.syn_ty.proofs.ty_laws.complete.Traits.{trait_in_met, trait_named}

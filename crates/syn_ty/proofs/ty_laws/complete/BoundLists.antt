@@ -1,27 +1,13 @@
 -- Bounds joined by `+` that a list spells clearly are what the reads of lists of bounds answer: one by one, or after a first bound that was read before.
 use Rattle.std.proofs.Common.{◌≡◌, ◌&&◌, ◌||◌, not, ℕ, zero, suc, ◌<◌, ◌≤◌, Bool, true, false, List, [], ◌∷◌, Option, refl, sym, ◌∙◌, ap, arith}
-use Rattle.token_core.specs.declared.span.Span.{Span}
-use Rattle.token_core.specs.declared.tree.Delimiter.TheVariants.{Parenthesis, Bracket}
-use Rattle.token_core.specs.Lifetimes.{sees_lifetime}
-use Rattle.token_core.specs.Listed.{Nowhere, AfterMark}
-use Rattle.token_core.specs.Loops.{Many, listed, listed_from, never, size}
-use Rattle.token_core.specs.Reads.{any_text, sees_group, sees_mark, sees_word}
-use Rattle.token_core.specs.Spellings.{last_char, IsMark, is_mark}
-use Rattle.token_core.specs.Stream.{Scope}
+use Rattle.syn_ty.proofs.ty_laws.words.Tokens.{Span, Parenthesis, Bracket, sees_lifetime, Nowhere, AfterMark, Many, listed, listed_from, never, size, any_text, sees_group, sees_mark, sees_word, last_char, IsMark, is_mark, Scope, Toks}
+use Rattle.syn_ty.proofs.ty_laws.words.Forms.{BoundPlace, bounds_from, bounds_to, list_from, plus_follows, sees_bound, stops_bound, ahead, allows_const}
+use Rattle.syn_ty.proofs.ty_laws.words.Types.{AreBounds, no_bounds, last_plus, last_bound, bound_and_plus, Manner, clearly, End, going_on, Parts, Readers, a_bound, sees_call, TypeParamBound}
 use Rattle.token_core.specs.Tokens as token
-use Rattle.token_core.specs.Toks.{Toks}
 use Rattle.token_core.proofs.MarkSpells.{mark_complete, mark_seen}
 use Rattle.token_core.proofs.Steps.{link, chosen, Reads_to}
 use Rattle.token_core.proofs.Took.{at}
-use Rattle.syn_forms.specs.declared.places.BoundPlace.{BoundPlace}
-use Rattle.syn_forms.specs.lists.Reading.{bounds, bounds_from, bounds_to, each_bound_from, list_from, plus_follows, sees_bound, stops_bound}
-use Rattle.syn_forms.specs.nested.Below.{ahead}
-use Rattle.syn_forms.specs.places.Reading.{allows_const}
-use Rattle.syn_ty.specs.generics.Bounds.{AreBounds, no_bounds, last_plus, last_bound, bound_and_plus}
-use Rattle.syn_ty.specs.ty.Parts.{Manner, clearly, End, going_on, Parts}
-use Rattle.syn_ty.specs.ty.Points.{Readers, a_bound}
-use Rattle.syn_ty.specs.ty.Reading.{sees_call}
-use Rattle.syn_ty.specs.ty.Trees.{TypeParamBound}
+use Rattle.syn_forms.specs.lists.Reading.{bounds, each_bound_from}
 use Rattle.syn_ty.proofs.ty_laws.complete.Leaves.{later, not_more}
 use Rattle.syn_ty.proofs.ty_laws.complete.Within.{Stops, Fits, Less, BoundBegins, Meets}
 

@@ -1,48 +1,25 @@
 -- What follows the path that a type begins with is read after it: a macro call, which drops a binder, the bounds of a trait object, or nothing.
 use Rattle.std.proofs.Common.{◌≡◌, ℕ, ◌≤◌, Bool, true, false, ◌&&◌, ◌||◌, List, [], ◌∷◌, Option, Some, None, is_some, refl, ◌∙◌, ap, map}
 use Rattle.std.specs.List.{list_all}
-use Rattle.token_core.specs.declared.span.DelimSpan.{DelimSpan}
-use Rattle.token_core.specs.declared.span.Span.{Span}
-use Rattle.token_core.specs.declared.tree.Delimiter.{Delimiter}
-use Rattle.token_core.specs.declared.tree.Spacing.{Spacing}
-use Rattle.token_core.specs.declared.tree.Spacing.TheVariants.{Joint, Alone}
-use Rattle.token_core.specs.Listed.{AreListed, AfterMark, Anywhere, Nowhere, last_value, value_and_mark}
-use Rattle.token_core.specs.Reads.{sees_mark}
-use Rattle.token_core.specs.Spellings.{IsMark, is_mark, last_char, more_chars}
-use Rattle.token_core.specs.Stream.{Scope}
+use Rattle.syn_ty.proofs.ty_laws.words.Tokens.{DelimSpan, Span, Delimiter, Spacing, Joint, AreListed, AfterMark, Anywhere, Nowhere, last_value, value_and_mark, sees_mark, IsMark, is_mark, last_char, more_chars, Scope, Toks, mark, group, TokenStream, punct, toks}
+use Rattle.syn_ty.proofs.ty_laws.words.Paths.{AsWritten, macro_of, path_of, IsBarePath, IsLeading, a_bare_path, last_segment, leading, more_segments, no_leading}
+use Rattle.syn_ty.proofs.ty_laws.words.Forms.{Object, list_from, plus_follows, ahead, goes_on, sees_turbofish}
+use Rattle.syn_ty.proofs.ty_laws.words.Types.{AreBounds, named_bound, Sep, is_none, no_arguments, nothing, segment_of, without, is_mod_style, is_segment_word, IsSegment, a_word, IsPath, a_path, Manner, clearly, End, Parts, Readers, object_of, sees_call, IsOptional, absent, present, BoundLifetimes, Path, PathSegment, QSelf, TypeParamBound, TypeTree, macro_type_of, qualified_with}
+use Rattle.token_core.specs.declared.tree.Spacing.TheVariants.{Alone}
 use Rattle.token_core.specs.Tokens as token
-use Rattle.token_core.specs.Toks.{Toks, mark, group}
-use Rattle.token_core.specs.Trees.{TokenStream, punct, toks}
 use Rattle.token_core.proofs.Steps.{Reads_to, chosen, link}
 use Rattle.token_core.proofs.Took.{at}
-use Rattle.syn_path.specs.declared.path.PathStyle.TheVariants.{AsWritten}
 use Rattle.syn_path.specs.declared.mac.MacroDelimiter.{MacroDelimiter}
-use Rattle.syn_path.specs.mac.Macros.{macro_of}
 use Rattle.syn_path.specs.mac.Reading as macs
 use Rattle.syn_path.specs.mac.Spelling.{Delimits, bang_at}
-use Rattle.syn_path.specs.path.Paths.{path_of}
 use Rattle.syn_path.specs.path.Spelling as bare
-use Rattle.syn_path.specs.path.Spelling.{IsBarePath, IsLeading, a_bare_path, last_segment, leading, more_segments, no_leading}
 use Rattle.syn_path.proofs.mac_laws.Complete.{call_after_complete}
-use Rattle.syn_forms.specs.declared.places.BoundPlace.TheVariants.{Object}
-use Rattle.syn_forms.specs.lists.Reading.{list_from, plus_follows}
-use Rattle.syn_forms.specs.nested.Below.{ahead}
-use Rattle.syn_forms.specs.paths.Reading.{goes_on, sees_turbofish}
 use Rattle.syn_ty.specs.declared.generics.TypeParamBoundOf.TheVariants as b
 use Rattle.syn_ty.specs.declared.ty.TypeOf.TheVariants as v
-use Rattle.syn_ty.specs.generics.Bounds.{AreBounds}
-use Rattle.syn_ty.specs.generics.Params.{named_bound}
-use Rattle.syn_ty.specs.path.Paths.{ModPath, ModSegment, Sep, is_none, no_arguments, nothing, segment_of, without}
-use Rattle.syn_ty.specs.path.Reading.{is_mod_style}
+use Rattle.syn_ty.specs.path.Paths.{ModPath, ModSegment}
 use Rattle.syn_ty.specs.path.Silent as silent
-use Rattle.syn_ty.specs.path.Spelling.{is_segment_word, IsSegment, a_word, IsPath, a_path}
-use Rattle.syn_ty.specs.ty.Parts.{Manner, clearly, End, Parts}
-use Rattle.syn_ty.specs.ty.Points.{Readers}
 use Rattle.syn_ty.specs.ty.Reading as reading
-use Rattle.syn_ty.specs.ty.Reading.{object_of, sees_call}
-use Rattle.syn_ty.specs.ty.Spelling.{IsOptional, absent, present}
-use Rattle.syn_ty.specs.ty.Trees.{BoundLifetimes, Path, PathSegment, QSelf, TypeParamBound, TypeTree}
-use Rattle.syn_ty.specs.ty.Types.{macro_type_of, path_type_of, qualified_with}
+use Rattle.syn_ty.specs.ty.Types.{path_type_of}
 use Rattle.syn_ty.proofs.ty_laws.complete.BoundLists.{bounds_from_met, ends_as, further, plus_stopped}
 use Rattle.syn_ty.proofs.ty_laws.complete.Within.{Fits, Meets, PathStops}
 

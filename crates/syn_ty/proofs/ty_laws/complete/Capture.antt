@@ -2,21 +2,13 @@
 use Rattle.std.specs.Prelude.{not}
 use Rattle.std.proofs.Common.{◌≡◌, suc, ◌<◌, Bool, true, false, List, [], ◌∷◌, ◌++◌, length, Option, Ok, refl, sym, ◌∙◌, ap, subst, append_assoc, arith}
 use Rattle.std.proofs.lemmas.Bool.{le-ltb, lt-ltb}
-use Rattle.token_core.specs.declared.span.Span.{Span}
-use Rattle.token_core.specs.declared.tree.Ident.{Ident}
-use Rattle.token_core.specs.declared.tree.TokenTree.{TokenTree}
+use Rattle.syn_ty.proofs.ty_laws.words.Tokens.{Span, Ident, TokenTree, sees_lifetime, AreListed, Anywhere, size, Item, Reader, any_text, ident_name, next_word, read_word, sees_mark, sees_word, last_char, IsMark, is_mark, is_lifetime, Scope, Toks, done, word, mark, lit, group, enter, leave, TokenStream, row, trees}
+use Rattle.syn_ty.proofs.ty_laws.words.Forms.{list, is_named_word, outside, position, since}
+use Rattle.syn_ty.proofs.ty_laws.words.Types.{CapturedParam, PreciseCapture, IsCaptured, a_lifetime_captured, a_name_captured, IsCapture, a_capture, captured_comma, listed_captured, Holds}
 use Rattle.token_core.specs.Cut.{trees_between}
 use Rattle.token_core.specs.Front.{past_ends}
-use Rattle.token_core.specs.Lifetimes.{sees_lifetime}
-use Rattle.token_core.specs.Listed.{AreListed, Anywhere}
-use Rattle.token_core.specs.Loops.{size}
-use Rattle.token_core.specs.Positions.{Item, IsReached, an_end, items, past, row_items, there, tree_items}
-use Rattle.token_core.specs.Reads.{Reader, any_text, ident_name, next_word, read_word, sees_mark, sees_word}
-use Rattle.token_core.specs.Spellings.{last_char, IsMark, is_mark, is_lifetime}
-use Rattle.token_core.specs.Stream.{Scope}
+use Rattle.token_core.specs.Positions.{IsReached, an_end, items, past, row_items, there, tree_items}
 use Rattle.token_core.specs.Tokens as token
-use Rattle.token_core.specs.Toks.{Toks, done, word, mark, lit, group, enter, leave}
-use Rattle.token_core.specs.Trees.{TokenStream, row, trees}
 use Rattle.token_core.proofs.Cuts.{between_same, kept_step, left_step}
 use Rattle.token_core.proofs.MarkSpells.{mark_complete, mark_seen, mark_size}
 use Rattle.token_core.proofs.Places.{reached_after, reached_outside, reached_shorter, reached_trans}
@@ -24,16 +16,9 @@ use Rattle.token_core.proofs.Positions.{adds_tree}
 use Rattle.token_core.proofs.Steps.{link, chosen, Reads_to}
 use Rattle.token_core.proofs.Took.{at}
 use Rattle.token_core.proofs.WordSpells.{word_complete, lifetime_complete, lifetime_seen}
-use Rattle.syn_forms.specs.lists.Reading.{list}
-use Rattle.syn_forms.specs.paths.Reading.{is_named_word}
-use Rattle.syn_forms.specs.verbatim.Reading.{outside, position, since}
 use Rattle.syn_forms.proofs.lists_laws.Complete.{listed_here}
-use Rattle.syn_ty.specs.declared.generics.CapturedParam.{CapturedParam}
-use Rattle.syn_ty.specs.declared.generics.PreciseCapture.{PreciseCapture}
-use Rattle.syn_ty.specs.generics.Bounds.{IsCaptured, a_lifetime_captured, a_name_captured, IsCapture, a_capture}
 use Rattle.syn_ty.specs.generics.Reading as reading
-use Rattle.syn_ty.specs.generics.Reading.{captured_comma, captured_or, listed_captured, sees_captured_ident}
-use Rattle.syn_ty.specs.ty.Parts.{Holds}
+use Rattle.syn_ty.specs.generics.Reading.{captured_or, sees_captured_ident}
 
 -- ---- captures
 

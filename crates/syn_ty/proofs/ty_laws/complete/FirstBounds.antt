@@ -1,40 +1,10 @@
 -- What bounds begin with, and that fewer tokens are left after them: over the same of what they hold.
 use Rattle.std.proofs.Common.{◌≡◌, ◌&&◌, ℕ, Bool, true, false, List, Option, refl, ap}
-use Rattle.token_core.specs.declared.lifetime.Lifetime.{Lifetime}
-use Rattle.token_core.specs.declared.span.DelimSpan.{DelimSpan}
-use Rattle.token_core.specs.declared.span.Span.{Span}
-use Rattle.token_core.specs.declared.tree.Delimiter.TheVariants.{Parenthesis, Bracket}
-use Rattle.token_core.specs.declared.tree.Ident.{Ident}
-use Rattle.token_core.specs.declared.tree.Spacing.{Spacing}
-use Rattle.token_core.specs.declared.tree.Spacing.TheVariants.{Joint}
-use Rattle.token_core.specs.declared.word.Word.{Word}
-use Rattle.token_core.specs.Lifetimes.{sees_lifetime}
-use Rattle.token_core.specs.Listed.{AreListed, Nowhere, none_left, last_value, value_and_mark}
-use Rattle.token_core.specs.Reads.{is_done, sees_group, sees_mark, sees_word}
-use Rattle.token_core.specs.Spellings.{last_char, more_chars, IsMark, is_mark, IsWord, is_word, IsLifetime, is_lifetime}
+use Rattle.syn_ty.proofs.ty_laws.words.Tokens.{Lifetime, DelimSpan, Span, Parenthesis, Bracket, Ident, Spacing, Joint, Word, sees_lifetime, AreListed, Nowhere, none_left, last_value, value_and_mark, is_done, sees_group, sees_mark, sees_word, last_char, more_chars, IsMark, is_mark, IsWord, is_word, IsLifetime, is_lifetime, Bytes, Toks, word, mark, group, punct}
+use Rattle.syn_ty.proofs.ty_laws.words.Paths.{AsWritten, Sep}
+use Rattle.syn_ty.proofs.ty_laws.words.Forms.{BoundPlace, TypePlace, NoPlus, sees_bound, allows_const}
+use Rattle.syn_ty.proofs.ty_laws.words.Types.{CapturedParam, PreciseCapture, TraitBoundModifiers, IsCaptured, a_lifetime_captured, a_name_captured, IsCapture, a_capture, AreModifiers, IsFor, IsTrait, a_trait, a_trait_for, a_trait_asked, IsTraitBound, a_trait_bound, IsBound, a_lifetime_bound, a_bare_bound, a_bound_in_parens, a_capture_bound, AreBounds, no_bounds, last_plus, last_bound, bound_and_plus, a_binder, IsReturn, no_output, an_output, IsParens, a_parens, IsDropped, nothing_dropped, a_sep_dropped, a_pair_dropped, IsSigned, a_signed, AreSigned, signed_last, signed_after, IsBoundPath, without_parens, with_parens, IsSegment, a_word, a_word_with_arguments, IsPath, a_path, Manner, clearly, End, Parts, is_trait, IsOptional, absent, present, BoundLifetimes, Parenthesized, Path, PathSegment, ReturnType, TraitBound, TypeParamBound}
 use Rattle.token_core.specs.Tokens as token
-use Rattle.token_core.specs.Toks.{Bytes, Toks, word, mark, group}
-use Rattle.token_core.specs.Trees.{punct}
-use Rattle.syn_path.specs.declared.path.PathStyle.TheVariants.{AsWritten}
-use Rattle.syn_path.specs.path.Paths.{Sep}
-use Rattle.syn_forms.specs.declared.places.BoundPlace.{BoundPlace}
-use Rattle.syn_forms.specs.declared.places.TypePlace.{TypePlace}
-use Rattle.syn_forms.specs.declared.places.TypePlace.TheVariants.{NoPlus}
-use Rattle.syn_forms.specs.lists.Reading.{sees_bound}
-use Rattle.syn_forms.specs.places.Reading.{allows_const}
-use Rattle.syn_ty.specs.declared.generics.CapturedParam.{CapturedParam}
-use Rattle.syn_ty.specs.declared.generics.PreciseCapture.{PreciseCapture}
-use Rattle.syn_ty.specs.declared.generics.TraitBoundModifiers.{TraitBoundModifiers}
-use Rattle.syn_ty.specs.generics.Bounds.{IsCaptured, a_lifetime_captured, a_name_captured, IsCapture, a_capture, AreModifiers, IsFor, IsTrait, a_trait, a_trait_for, a_trait_asked, IsTraitBound, a_trait_bound}
-use Rattle.syn_ty.specs.generics.Bounds.{IsBound, a_lifetime_bound, a_bare_bound, a_bound_in_parens, a_capture_bound}
-use Rattle.syn_ty.specs.generics.Bounds.{AreBounds, no_bounds, last_plus, last_bound, bound_and_plus}
-use Rattle.syn_ty.specs.generics.Spelling.{a_binder}
-use Rattle.syn_ty.specs.path.Signed.{IsReturn, no_output, an_output, IsParens, a_parens, IsDropped, nothing_dropped, a_sep_dropped, a_pair_dropped, IsSigned, a_signed, AreSigned, signed_last, signed_after, IsBoundPath, without_parens, with_parens}
-use Rattle.syn_ty.specs.path.Spelling.{IsSegment, a_word, a_word_with_arguments, IsPath, a_path}
-use Rattle.syn_ty.specs.ty.Parts.{Manner, clearly, End, Parts}
-use Rattle.syn_ty.specs.ty.Reading.{is_trait}
-use Rattle.syn_ty.specs.ty.Spelling.{IsOptional, absent, present}
-use Rattle.syn_ty.specs.ty.Trees.{BoundLifetimes, Parenthesized, Path, PathSegment, ReturnType, TraitBound, TypeParamBound}
 use Rattle.syn_ty.proofs.ty_laws.complete.FirstPaths.{Starts, path_less, segment_less, word_bound, sep_bound}
 use Rattle.syn_ty.proofs.ty_laws.Kinds as kinds
 use Rattle.syn_ty.proofs.ty_laws.complete.Modifiers.{modifiers_begin, modifiers_no}

@@ -2,39 +2,15 @@
 use Rattle.std.proofs.lemmas.Bool.{and_from, and_left, and_right, eqb-true, or_from, or_left}
 use Rattle.std.proofs.lemmas.Slice.Eq.{bytes_eq-Decides}
 use Rattle.std.proofs.Common.{◌≡◌, ◌⊎◌, ◌&&◌, ◌||◌, ◌==◌, ℕ, not, if◌then◌else◌, is_some, Bool, true, false, List, [], ◌∷◌, Option, Some, None, refl, ◌∙◌, ap}
-use Rattle.token_core.specs.declared.lifetime.Lifetime.{Lifetime}
-use Rattle.token_core.specs.declared.lit.Lit.{Lit}
+use Rattle.syn_ty.proofs.ty_laws.words.Tokens.{Lifetime, Lit, Span, Ident, Spacing, Joint, is_keyword, sees_lifetime, AreListed, Nowhere, none_left, last_value, value_and_mark, sees_lit, text_of, after_one, is_done, is_text, sees_group, sees_mark, sees_word, third, last_char, more_chars, IsMark, is_mark, IsLifetime, Bytes, Toks, done, word, mark, lit, group, enter, leave, punct}
+use Rattle.syn_ty.proofs.ty_laws.words.Paths.{PathStyle, AsWritten, Sep}
+use Rattle.syn_ty.proofs.ty_laws.words.Forms.{BoundPlace, Plus, sees_name, sees_bound, sees_arguments, sees_turbofish}
+use Rattle.syn_ty.proofs.ty_laws.words.Types.{sees_const, sees_lone_lifetime, is_segment_word, IsAngle, an_angle, IsSegment, a_word, a_word_with_arguments, IsPath, a_path, IsQualified, by_type, by_type_as_path, IsAnyPath, unqualified, qualified, Manner, clearly, End, Parts, is_trait, IsOptional, absent, present, AngleBracketed, Path, PathSegment, QSelf, TypeParamBound}
 use Rattle.token_core.specs.declared.lit.Lit.TheVariants as v
-use Rattle.token_core.specs.declared.span.Span.{Span}
-use Rattle.token_core.specs.declared.tree.Ident.{Ident}
-use Rattle.token_core.specs.declared.tree.Spacing.{Spacing}
-use Rattle.token_core.specs.declared.tree.Spacing.TheVariants.{Joint}
-use Rattle.token_core.specs.Keywords.{is_keyword}
-use Rattle.token_core.specs.Lifetimes.{sees_lifetime}
-use Rattle.token_core.specs.Listed.{AreListed, Nowhere, none_left, last_value, value_and_mark}
-use Rattle.token_core.specs.Lits.{false_text, lit_bool, sees_lit, true_text}
-use Rattle.token_core.specs.Marks.{text_of}
-use Rattle.token_core.specs.Reads.{after_one, is_done, is_text, sees_group, sees_mark, sees_word, third}
-use Rattle.token_core.specs.Spellings.{last_char, more_chars, IsMark, is_mark, IsLifetime}
+use Rattle.token_core.specs.Lits.{false_text, lit_bool, true_text}
 use Rattle.token_core.specs.Tokens as token
-use Rattle.token_core.specs.Toks.{Bytes, Toks, done, word, mark, lit, group, enter, leave}
-use Rattle.token_core.specs.Trees.{punct}
 use Rattle.token_core.proofs.MarkSpells.{mark_seen}
 use Rattle.token_core.proofs.Unseen.{no_mark-other, lt_apart, lt_no_shift}
-use Rattle.syn_path.specs.declared.path.PathStyle.{PathStyle}
-use Rattle.syn_path.specs.declared.path.PathStyle.TheVariants.{AsWritten}
-use Rattle.syn_path.specs.path.Paths.{Sep}
-use Rattle.syn_forms.specs.declared.places.BoundPlace.{BoundPlace}
-use Rattle.syn_forms.specs.declared.places.TypePlace.TheVariants.{Plus}
-use Rattle.syn_forms.specs.inputs.Reading.{sees_name}
-use Rattle.syn_forms.specs.lists.Reading.{sees_bound}
-use Rattle.syn_forms.specs.paths.Reading.{sees_arguments, sees_turbofish}
-use Rattle.syn_ty.specs.path.Reading.{sees_const, sees_lone_lifetime}
-use Rattle.syn_ty.specs.path.Spelling.{is_segment_word, IsAngle, an_angle, IsSegment, a_word, a_word_with_arguments, IsPath, a_path, IsQualified, by_type, by_type_as_path, IsAnyPath, unqualified, qualified}
-use Rattle.syn_ty.specs.ty.Parts.{Manner, clearly, End, Parts}
-use Rattle.syn_ty.specs.ty.Reading.{is_trait}
-use Rattle.syn_ty.specs.ty.Spelling.{IsOptional, absent, present}
-use Rattle.syn_ty.specs.ty.Trees.{AngleBracketed, Path, PathSegment, QSelf, TypeParamBound}
 use Rattle.syn_ty.proofs.ty_laws.complete.Less.{no_no, no_less, less_no, less_less, word_less, mark_no, mark_takes, word_takes, optional_no, listed_no, listed_less}
 use Rattle.syn_ty.proofs.ty_laws.complete.Within.{BoundBegins, Firsts, Less, NoMore, TypeBegins}
 

@@ -3,44 +3,13 @@ use Rattle.std.specs.List.{list_any}
 use Rattle.std.proofs.Common.{◌≡◌, true, false, List, [], ◌∷◌, Option, refl, ap}
 use Rattle.std.proofs.lemmas.Bool.{or_from}
 use Rattle.std.proofs.lemmas.Slice.Eq.{bytes_eq-Decides}
-use Rattle.token_core.specs.declared.lifetime.Lifetime.{Lifetime}
-use Rattle.token_core.specs.declared.lit.LitStr.{LitStr}
-use Rattle.token_core.specs.declared.span.DelimSpan.{DelimSpan}
-use Rattle.token_core.specs.declared.span.Span.{Span}
-use Rattle.token_core.specs.declared.tree.Delimiter.{Delimiter}
-use Rattle.token_core.specs.declared.tree.Delimiter.TheVariants.{Parenthesis, Brace}
-use Rattle.token_core.specs.declared.tree.Ident.{Ident}
-use Rattle.token_core.specs.declared.tree.Spacing.{Spacing}
-use Rattle.token_core.specs.Keywords.{is_keyword}
-use Rattle.token_core.specs.Lifetimes.{sees_lifetime}
-use Rattle.token_core.specs.Listed.{AfterMark}
-use Rattle.token_core.specs.Lits.{sees_lit}
-use Rattle.token_core.specs.Loops.{Many}
-use Rattle.token_core.specs.Reads.{after_one, builtin_text, is_done, is_text, same_delimiter, sees_group, sees_mark, sees_word}
-use Rattle.token_core.specs.Spellings.{last_char, IsMark, is_mark, IsWord, is_word, IsLifetime, is_lifetime, IsStr, a_str}
+use Rattle.syn_ty.proofs.ty_laws.words.Tokens.{Lifetime, LitStr, DelimSpan, Span, Delimiter, Parenthesis, Brace, Ident, Spacing, is_keyword, sees_lifetime, AfterMark, sees_lit, Many, after_one, builtin_text, is_done, is_text, sees_group, sees_mark, sees_word, last_char, IsMark, is_mark, IsWord, is_word, IsLifetime, is_lifetime, IsStr, Toks, done, word, mark, group, punct}
+use Rattle.syn_ty.proofs.ty_laws.words.Paths.{AsWritten}
+use Rattle.syn_ty.proofs.ty_laws.words.Forms.{BoundPlace, Object, Opaque, TypePlace, NoPlus, sees_name}
+use Rattle.syn_ty.proofs.ty_laws.words.Types.{Abi, IsFor, AreBounds, no_bounds, last_bound, bound_and_plus, a_binder, sees_const, sees_lone_lifetime, is_segment_word, IsPointer, a_pointer, IsBorrow, a_borrow, a_mutable_borrow, a_lifetime_borrow, IsVerbatimType, an_unsafe_binder, a_dyn_star, a_builtin, IsAbi, an_abi, IsFnPtr, a_fn_ptr, IsBoundList, several_bounds, one_bound, AreObjectBounds, object_bounds, IsDyn, a_dyn, IsImpl, an_impl, IsFirst, a_first, a_first_for, AreFurther, none_further, some_further, AreBareBounds, path_alone, path_and_plus, held_and_plus, asked_first, asked_in_two, lifetime_first, Manner, clearly, End, Parts, is_trait, last_place, IsOptional, absent, present, BoundLifetimes, Path, TypeFnPtr, TypeImplTrait, TypeParamBound, TypePtr, TypeReference, TypeTraitObject}
+use Rattle.token_core.specs.Reads.{same_delimiter}
+use Rattle.token_core.specs.Spellings.{a_str}
 use Rattle.token_core.specs.Tokens as token
-use Rattle.token_core.specs.Toks.{Toks, done, word, mark, group}
-use Rattle.token_core.specs.Trees.{punct}
-use Rattle.syn_path.specs.declared.path.PathStyle.TheVariants.{AsWritten}
-use Rattle.syn_forms.specs.declared.places.BoundPlace.{BoundPlace}
-use Rattle.syn_forms.specs.declared.places.BoundPlace.TheVariants.{Object, Opaque}
-use Rattle.syn_forms.specs.declared.places.TypePlace.{TypePlace}
-use Rattle.syn_forms.specs.declared.places.TypePlace.TheVariants.{NoPlus}
-use Rattle.syn_forms.specs.inputs.Reading.{sees_name}
-use Rattle.syn_ty.specs.declared.ty.Abi.{Abi}
-use Rattle.syn_ty.specs.generics.Bounds.{IsFor, AreBounds, no_bounds, last_bound, bound_and_plus}
-use Rattle.syn_ty.specs.generics.Spelling.{a_binder}
-use Rattle.syn_ty.specs.path.Reading.{sees_const, sees_lone_lifetime}
-use Rattle.syn_ty.specs.path.Spelling.{is_segment_word}
-use Rattle.syn_ty.specs.ty.Admitted.{IsPointer, a_pointer, IsBorrow, a_borrow, a_mutable_borrow, a_lifetime_borrow}
-use Rattle.syn_ty.specs.ty.Admitted.{IsVerbatimType, an_unsafe_binder, a_dyn_star, a_builtin}
-use Rattle.syn_ty.specs.ty.Functions.{IsAbi, an_abi, IsFnPtr, a_fn_ptr}
-use Rattle.syn_ty.specs.ty.Objects.{IsBoundList, several_bounds, one_bound, AreObjectBounds, object_bounds, IsDyn, a_dyn, IsImpl, an_impl, IsFirst, a_first, a_first_for, AreFurther, none_further, some_further}
-use Rattle.syn_ty.specs.ty.Objects.{AreBareBounds, path_alone, path_and_plus, held_and_plus, asked_first, asked_in_two, lifetime_first}
-use Rattle.syn_ty.specs.ty.Parts.{Manner, clearly, End, Parts}
-use Rattle.syn_ty.specs.ty.Reading.{is_trait, last_place}
-use Rattle.syn_ty.specs.ty.Spelling.{IsOptional, absent, present}
-use Rattle.syn_ty.specs.ty.Trees.{BoundLifetimes, Path, TypeFnPtr, TypeImplTrait, TypeParamBound, TypePtr, TypeReference, TypeTraitObject}
 use Rattle.syn_ty.specs.ty.Types.{Underscore}
 use Rattle.syn_ty.proofs.ty_laws.complete.FirstBounds.{bounds_no, bounds_start, return_no}
 use Rattle.syn_ty.proofs.ty_laws.complete.Named.{for_less}

@@ -1,42 +1,16 @@
 -- What each form of this layer begins with, and that fewer tokens are left after it, at every height of a tree.
 use Rattle.std.proofs.lemmas.Bool.{eqb-true}
 use Rattle.std.proofs.Common.{◌≡◌, ◌⊎◌, ◌==◌, ◌||◌, if◌then◌else◌, is_some, ℕ, zero, suc, Bool, true, false, List, [], Option, None, inl, inr, refl, sym, ap, subst}
-use Rattle.token_core.specs.declared.lifetime.Lifetime.{Lifetime}
-use Rattle.token_core.specs.declared.lit.Lit.{Lit}
-use Rattle.token_core.specs.declared.tree.Delimiter.TheVariants.{Parenthesis, Bracket}
-use Rattle.token_core.specs.declared.tree.Ident.{Ident}
-use Rattle.token_core.specs.Lits.{next_lit, past_number, sees_lit}
-use Rattle.token_core.specs.Reads.{Reader, is_done, sees_group, sees_mark}
-use Rattle.token_core.specs.Spellings.{last_char, is_mark, IsWord, is_word, IsLifetime, is_lifetime}
+use Rattle.syn_ty.proofs.ty_laws.words.Tokens.{Lifetime, Lit, Parenthesis, Bracket, Ident, sees_lit, Reader, is_done, sees_group, sees_mark, last_char, is_mark, IsWord, is_word, IsLifetime, is_lifetime, Toks, done, word, mark, lit, group, enter, leave, punct}
+use Rattle.syn_ty.proofs.ty_laws.words.Paths.{Macro, PathOf, PathSegmentOf, AsWritten, IsCall, a_macro, Sep, ReadValues, SpelledValues}
+use Rattle.syn_ty.proofs.ty_laws.words.Forms.{ParamPlace, TypePlace, Plus, sees_arguments}
+use Rattle.syn_ty.proofs.ty_laws.words.Types.{LifetimeParamOf, IsGiven, given, IsLifetimeParam, a_lone_lifetime, a_lifetime_with_bounds, AreBoundsAfter, no_colon, after_colon, IsAnyType, any_type, IsTypeParam, a_type_param, IsConstParam, a_const_param, IsParam, a_lifetime_param, a_named_param, a_constant_param, a_bare_param, ArgumentPlace, between_angles, IsItemName, an_item, an_item_with_arguments, IsArgument, a_lifetime_argument, a_type_argument, a_const_argument, an_assoc_type, an_assoc_const, a_constraint, sees_const, is_segment_word, IsArguments, IsType, a_path_type, a_macro, a_bound_macro, an_object_with_dyn, an_object_without_dyn, an_impl_type, a_fn_type, a_ptr_type, a_reference_type, a_paren_type, a_tuple_type, a_slice_type, an_array_type, an_infer_type, a_never_type, a_verbatim_type, enclosed, bracketed, counted, no_element, some_elements, Manner, clearly, End, Parts, Relation, an_infer, a_never, turn, spelt_to, AngleBracketed, ConstParam, GenericArgument, GenericParam, PathArguments, TypeParam, TypeParamBound, TypeTree}
+use Rattle.token_core.specs.Lits.{next_lit, past_number}
 use Rattle.token_core.specs.Tokens as token
-use Rattle.token_core.specs.Toks.{Toks, done, word, mark, lit, group, enter, leave}
-use Rattle.token_core.specs.Trees.{punct}
 use Rattle.token_core.proofs.Unseen.{no_mark-other}
-use Rattle.syn_path.specs.declared.mac.Macro.{Macro}
-use Rattle.syn_path.specs.declared.path.PathOf.{PathOf}
-use Rattle.syn_path.specs.declared.path.PathSegmentOf.{PathSegmentOf}
-use Rattle.syn_path.specs.declared.path.PathStyle.TheVariants.{AsWritten}
-use Rattle.syn_path.specs.mac.Spelling.{IsCall, a_macro}
-use Rattle.syn_path.specs.path.Paths.{Sep}
 use Rattle.syn_path.specs.path.Spelling as bare
-use Rattle.syn_path.specs.Values.{ReadValues, SpelledValues}
-use Rattle.syn_forms.specs.declared.places.ParamPlace.{ParamPlace}
-use Rattle.syn_forms.specs.declared.places.TypePlace.{TypePlace}
-use Rattle.syn_forms.specs.declared.places.TypePlace.TheVariants.{Plus}
-use Rattle.syn_forms.specs.paths.Reading.{sees_arguments}
-use Rattle.syn_ty.specs.declared.generics.LifetimeParamOf.{LifetimeParamOf}
 use Rattle.syn_ty.specs.declared.path.PathArgumentsOf.TheVariants as a
-use Rattle.syn_ty.specs.generics.Parameters.{IsGiven, given, IsLifetimeParam, a_lone_lifetime, a_lifetime_with_bounds, AreBoundsAfter, no_colon, after_colon, IsAnyType, any_type, IsTypeParam, a_type_param, IsConstParam, a_const_param}
-use Rattle.syn_ty.specs.generics.Parameters.{IsParam, a_lifetime_param, a_named_param, a_constant_param, a_bare_param}
-use Rattle.syn_ty.specs.path.Arguments.{ArgumentPlace, between_angles, IsItemName, an_item, an_item_with_arguments, IsArgument, a_lifetime_argument, a_type_argument, a_const_argument, an_assoc_type, an_assoc_const, a_constraint}
-use Rattle.syn_ty.specs.path.Reading.{sees_const}
-use Rattle.syn_ty.specs.path.Spelling.{is_segment_word, IsArguments, some_arguments}
-use Rattle.syn_ty.specs.ty.Admitted.{IsType, a_path_type, a_macro, a_bound_macro, an_object_with_dyn, an_object_without_dyn, an_impl_type, a_fn_type, a_ptr_type}
-use Rattle.syn_ty.specs.ty.Admitted.{a_reference_type, a_paren_type, a_tuple_type, a_slice_type, an_array_type, an_infer_type, a_never_type, a_verbatim_type, enclosed, bracketed, counted, no_element, some_elements}
-use Rattle.syn_ty.specs.ty.Parts.{Manner, clearly, End, Parts}
-use Rattle.syn_ty.specs.ty.Spelling.{Relation, an_infer, a_never}
-use Rattle.syn_ty.specs.ty.Spelt.{turn, spelt_to}
-use Rattle.syn_ty.specs.ty.Trees.{AngleBracketed, ConstParam, GenericArgument, GenericParam, PathArguments, TypeParam, TypeParamBound, TypeTree}
+use Rattle.syn_ty.specs.path.Spelling.{some_arguments}
 use Rattle.syn_ty.proofs.ty_laws.complete.FirstBounds.{bound_life, bound_starts, bounds_no}
 use Rattle.syn_ty.proofs.ty_laws.complete.Named.{for_less}
 use Rattle.syn_ty.proofs.ty_laws.complete.FirstPaths.{PartBegins, PathStarts, by_word, by_sep, Starts, Worded, worded, angle_starts, any_path_starts, mark_other, mark_there, path_type, starts_on}

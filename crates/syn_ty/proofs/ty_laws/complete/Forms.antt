@@ -1,49 +1,28 @@
 -- Pointers, references, tuples, slices, arrays and a type in parentheses, spelt clearly, are what their reads answer and all that they take.
 use Rattle.std.specs.Prelude.{is_some, not}
 use Rattle.std.proofs.Common.{◌≡◌, ℕ, ◌<◌, ◌≤◌, Bool, true, false, List, [], ◌∷◌, Option, Some, None, Ok, refl, ap, arith}
-use Rattle.token_core.specs.declared.lifetime.Lifetime.{Lifetime}
-use Rattle.token_core.specs.declared.span.DelimSpan.{DelimSpan}
-use Rattle.token_core.specs.declared.span.Span.{Span}
-use Rattle.token_core.specs.declared.tree.Delimiter.{Delimiter}
-use Rattle.token_core.specs.declared.tree.Delimiter.TheVariants.{Parenthesis, Bracket}
+use Rattle.syn_ty.proofs.ty_laws.words.Tokens.{Lifetime, DelimSpan, Span, Delimiter, Parenthesis, Bracket, sees_lifetime, AreListed, Anywhere, terminated, Outcome, Reader, is_done, optional, sees_group, sees_mark, sees_word, none, Scope, IsMark, is_mark, last_char, IsWord, is_word, IsLifetime, is_lifetime, Toks, done, group}
+use Rattle.syn_ty.proofs.ty_laws.words.Paths.{ReadValues}
+use Rattle.syn_ty.proofs.ty_laws.words.Forms.{TypePlace, Plus, NoPlus, in_brackets, in_parens, more_elements, ahead, allows_plus}
+use Rattle.syn_ty.proofs.ty_laws.words.Types.{IsPointer, a_pointer, IsBorrow, a_borrow, a_mutable_borrow, a_lifetime_borrow, IsEnclosed, enclosed, IsBracketed, bracketed, IsCounted, counted, IsElement, an_element, IsTupled, no_element, some_elements, Manner, clearly, End, Parts, Readers, a_type, sees_call, Relation, IsOptional, absent, present, TypeTree, TypeArray, TypeParen, TypePtr, TypeReference, TypeSlice, TypeTuple, And, Comma, Mut, reference_of}
 use Rattle.token_core.specs.Groups as groups
-use Rattle.token_core.specs.Lifetimes.{sees_lifetime}
-use Rattle.token_core.specs.Listed.{AreListed, Anywhere}
-use Rattle.token_core.specs.Loops.{terminated}
-use Rattle.token_core.specs.Reads.{Outcome, Reader, is_done, optional, sees_group, sees_mark, sees_word}
-use Rattle.token_core.specs.Spans.{none}
-use Rattle.token_core.specs.Stream.{Scope}
-use Rattle.token_core.specs.Spellings.{IsMark, is_mark, last_char, IsWord, is_word, IsLifetime, is_lifetime}
 use Rattle.token_core.specs.Tokens as token
-use Rattle.token_core.specs.Toks.{Toks, done, group}
 use Rattle.token_core.proofs.MarkSpells.{mark_complete, mark_seen, mark_size}
 use Rattle.token_core.proofs.Steps.{link, chosen, Reads_to}
 use Rattle.token_core.proofs.Took.{at, leaves_none}
 use Rattle.token_core.proofs.WordSpells.{word_complete, word_seen, lifetime_complete, lifetime_seen}
-use Rattle.syn_path.specs.Values.{ReadValues}
 use Rattle.syn_path.proofs.Words.{Uses, uses_none}
 use Rattle.syn_forms.specs.declared.groups.InBrackets.TheVariants.{Element, Counted}
-use Rattle.syn_forms.specs.declared.places.TypePlace.{TypePlace}
-use Rattle.syn_forms.specs.declared.places.TypePlace.TheVariants.{Plus, NoPlus}
 use Rattle.syn_forms.specs.forms.Reading as forms
 use Rattle.syn_forms.specs.groups.Reading as inner
-use Rattle.syn_forms.specs.groups.Reading.{bracket_content, in_brackets, in_parens, tuple_content}
-use Rattle.syn_forms.specs.lists.Reading.{more_elements}
-use Rattle.syn_forms.specs.nested.Below.{ahead}
-use Rattle.syn_forms.specs.places.Reading.{allows_plus}
+use Rattle.syn_forms.specs.groups.Reading.{bracket_content, tuple_content}
 use Rattle.syn_forms.specs.tokens.Reading as tokens
 use Rattle.syn_forms.proofs.groups_laws.Complete.{content, content_ahead, reads_inside}
 use Rattle.syn_forms.proofs.lists_laws.Complete.{any_first, listed_here}
 use Rattle.syn_forms.proofs.nested_laws.Ahead.{weight}
 use Rattle.syn_ty.specs.declared.ty.TypeOf.TheVariants as v
-use Rattle.syn_ty.specs.ty.Admitted.{IsPointer, a_pointer, IsBorrow, a_borrow, a_mutable_borrow, a_lifetime_borrow, IsEnclosed, enclosed, IsBracketed, bracketed, IsCounted, counted, IsElement, an_element, IsTupled, no_element, some_elements}
-use Rattle.syn_ty.specs.ty.Parts.{Manner, clearly, End, Parts}
-use Rattle.syn_ty.specs.ty.Points.{Readers, a_type}
 use Rattle.syn_ty.specs.ty.Reading as reading
-use Rattle.syn_ty.specs.ty.Reading.{sees_call}
-use Rattle.syn_ty.specs.ty.Spelling.{Relation, IsOptional, absent, present}
-use Rattle.syn_ty.specs.ty.Trees.{TypeTree, TypeArray, TypeParen, TypePtr, TypeReference, TypeSlice, TypeTuple}
-use Rattle.syn_ty.specs.ty.Types.{And, Comma, Mut, Semi, reference_of}
+use Rattle.syn_ty.specs.ty.Types.{Semi}
 use Rattle.syn_ty.proofs.ty_laws.complete.Leaves.{array_complete, later, not_more, paren_complete, ptr_complete, slice_complete}
 use Rattle.syn_ty.proofs.ty_laws.complete.Params.{Over, done_over, over_fits}
 use Rattle.syn_ty.proofs.ty_laws.complete.Within.{Fits, Less, Meets, SuppliedMeets, TypeBegins}

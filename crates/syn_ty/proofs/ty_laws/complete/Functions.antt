@@ -1,46 +1,23 @@
 -- A pointer to a function, spelt clearly, is what its read answers and all that it takes: over the reads of its types and attributes, with its ABI, its arguments, which may end in a variadic, and its output.
 use Rattle.std.specs.Prelude.{option_map}
 use Rattle.std.proofs.Common.{◌≡◌, ℕ, ◌≤◌, true, false, List, [], Option, Some, None, refl, arith}
-use Rattle.token_core.specs.declared.span.DelimSpan.{DelimSpan}
-use Rattle.token_core.specs.declared.span.Span.{Span}
-use Rattle.token_core.specs.declared.token.Paren.{Paren}
-use Rattle.token_core.specs.declared.tree.Delimiter.TheVariants.{Parenthesis}
+use Rattle.syn_ty.proofs.ty_laws.words.Tokens.{DelimSpan, Span, Paren, Parenthesis, sees_invisible, is_keyword, sees_str, Many, Reader, after_one, sees_group, sees_mark, sees_word, none, IsWord, is_word, IsStr, Scope, Toks, group}
+use Rattle.syn_ty.proofs.ty_laws.words.Paths.{ReadValues}
+use Rattle.syn_ty.proofs.ty_laws.words.Forms.{Plus, NoPlus, ahead}
+use Rattle.syn_ty.proofs.ty_laws.words.Types.{Abi, FnPtrVariadicOf, IsFor, binder, optional_binder, a_binder, IsReturn, IsAbi, an_abi, AreInputs, IsFnPtr, a_fn_ptr, Manner, clearly, End, Parts, Readers, a_type, begins_named, sees_bindable, sees_fn_ptr, sees_unsafe_binder, IsOptional, absent, present, BoundLifetimes, NamedArg, ReturnType, TypeFnPtr, fn_ptr_with, named_arg_of}
 use Rattle.token_core.specs.Groups as groups
-use Rattle.token_core.specs.Groups.{sees_invisible}
-use Rattle.token_core.specs.Keywords.{is_keyword}
-use Rattle.token_core.specs.Lits.{sees_str, read_str}
-use Rattle.token_core.specs.Loops.{Many}
-use Rattle.token_core.specs.Reads.{Reader, after_one, sees_group, sees_mark, sees_word}
-use Rattle.token_core.specs.Spans.{none}
-use Rattle.token_core.specs.Spellings.{IsWord, is_word, IsStr}
-use Rattle.token_core.specs.Stream.{Scope}
+use Rattle.token_core.specs.Lits.{read_str}
 use Rattle.token_core.specs.Tokens as token
-use Rattle.token_core.specs.Toks.{Toks, group}
 use Rattle.token_core.proofs.LitSpells.{str_complete, str_seen}
 use Rattle.token_core.proofs.Steps.{link, chosen, Reads_to}
 use Rattle.token_core.proofs.Took.{at}
 use Rattle.token_core.proofs.WordSpells.{word_complete, word_seen}
-use Rattle.syn_path.specs.Values.{ReadValues}
-use Rattle.syn_forms.specs.declared.places.TypePlace.TheVariants.{Plus, NoPlus}
 use Rattle.syn_forms.specs.heads.Reading as heads
 use Rattle.syn_forms.specs.inputs.Reading as inputs
-use Rattle.syn_forms.specs.nested.Below.{ahead}
 use Rattle.syn_forms.proofs.groups_laws.Complete.{content}
-use Rattle.syn_ty.specs.declared.ty.Abi.{Abi}
-use Rattle.syn_ty.specs.declared.ty.FnPtrVariadicOf.{FnPtrVariadicOf}
 use Rattle.syn_ty.specs.declared.ty.TypeOf.TheVariants as form
-use Rattle.syn_ty.specs.generics.Bounds.{IsFor}
-use Rattle.syn_ty.specs.generics.Reading.{binder, optional_binder}
-use Rattle.syn_ty.specs.generics.Spelling.{a_binder}
-use Rattle.syn_ty.specs.path.Signed.{IsReturn}
-use Rattle.syn_ty.specs.ty.Functions.{IsAbi, an_abi, AreInputs, IsFnPtr, a_fn_ptr}
-use Rattle.syn_ty.specs.ty.Parts.{Manner, clearly, End, Parts}
-use Rattle.syn_ty.specs.ty.Points.{Readers, a_type}
 use Rattle.syn_ty.specs.ty.Reading as reading
-use Rattle.syn_ty.specs.ty.Reading.{begins_named, fn_ptr_by, sees_bindable, sees_fn_ptr, sees_unsafe_binder}
-use Rattle.syn_ty.specs.ty.Spelling.{IsOptional, absent, present}
-use Rattle.syn_ty.specs.ty.Trees.{BoundLifetimes, NamedArg, ReturnType, TypeFnPtr}
-use Rattle.syn_ty.specs.ty.Types.{fn_ptr_with, named_arg_of}
+use Rattle.syn_ty.specs.ty.Reading.{fn_ptr_by}
 use Rattle.syn_ty.proofs.ty_laws.complete.Forms.{optional_met}
 use Rattle.syn_ty.proofs.ty_laws.complete.InputLists.{dots_parts, inputs_met}
 use Rattle.syn_ty.proofs.ty_laws.complete.Less.{no_no, optional_no, some, str_takes, word_takes}

@@ -2,31 +2,18 @@
 use Rattle.std.specs.Prelude.{option_map}
 use Rattle.std.proofs.lemmas.Bool.{and_from}
 use Rattle.std.proofs.Common.{◌≡◌, ℕ, zero, suc, ◌<◌, ◌≤◌, Bool, true, false, if◌then◌else◌, List, [], ◌∷◌, Option, Some, None, is_some, Ok, inl, inr, refl, ◌∙◌, ap, arith}
-use Rattle.token_core.specs.declared.span.Span.{Span}
-use Rattle.token_core.specs.declared.tree.Ident.{Ident}
-use Rattle.token_core.specs.Front.{front}
-use Rattle.token_core.specs.Listed.{AreListed, none_left, last_value, value_and_mark, Anywhere}
-use Rattle.token_core.specs.Loops.{Many, size}
-use Rattle.token_core.specs.Reads.{Reader, Outcome, ◌>>=◌, after_one, as_punct, is_done, is_end, optional, past_mark, past_next, pure, sees_mark, sees_word}
-use Rattle.token_core.specs.Spellings.{last_char, more_chars, IsMark, is_mark}
-use Rattle.token_core.specs.Stream.{Scope}
+use Rattle.syn_ty.proofs.ty_laws.words.Tokens.{Span, Ident, front, AreListed, none_left, last_value, value_and_mark, Anywhere, Many, size, Reader, Outcome, ◌>>=◌, after_one, as_punct, is_done, optional, past_mark, past_next, pure, sees_mark, sees_word, last_char, more_chars, IsMark, is_mark, Scope, Toks, done, word, mark, lit, group, enter, leave}
+use Rattle.syn_ty.proofs.ty_laws.words.Paths.{ReadValues}
+use Rattle.syn_ty.proofs.ty_laws.words.Forms.{Plus, ahead}
+use Rattle.syn_ty.proofs.ty_laws.words.Types.{FnPtrVariadicOf, is_name, IsNamedArg, IsVariadic, dots, named_dots, AreInputs, plain_inputs, variadic_inputs, Manner, clearly, End, Parts, AreMarked, no_further, one_further, IsOptional, NamedArg, TypeTree, named_arg_of}
+use Rattle.token_core.specs.Reads.{is_end}
 use Rattle.token_core.specs.Tokens as token
-use Rattle.token_core.specs.Toks.{Toks, done, word, mark, lit, group, enter, leave}
 use Rattle.token_core.proofs.MarkSpells.{mark_complete, mark_seen}
 use Rattle.token_core.proofs.Steps.{link, chosen, Reads_to}
 use Rattle.token_core.proofs.Took.{at}
-use Rattle.syn_path.specs.Values.{ReadValues}
-use Rattle.syn_forms.specs.declared.places.TypePlace.TheVariants.{Plus}
 use Rattle.syn_forms.specs.inputs.Reading as inputs
 use Rattle.syn_forms.specs.inputs.Reading.{sees_dots}
-use Rattle.syn_forms.specs.nested.Below.{ahead}
-use Rattle.syn_ty.specs.declared.ty.FnPtrVariadicOf.{FnPtrVariadicOf}
 use Rattle.syn_ty.specs.declared.ty.TypeOf.TheVariants as form
-use Rattle.syn_ty.specs.ty.Functions.{is_name, IsNamedArg, IsVariadic, dots, named_dots, AreInputs, plain_inputs, variadic_inputs}
-use Rattle.syn_ty.specs.ty.Parts.{Manner, clearly, End, Parts, AreMarked, no_further, one_further}
-use Rattle.syn_ty.specs.ty.Spelling.{IsOptional}
-use Rattle.syn_ty.specs.ty.Trees.{NamedArg, TypeTree}
-use Rattle.syn_ty.specs.ty.Types.{named_arg_of}
 use Rattle.syn_ty.proofs.ty_laws.complete.Leaves.{later}
 use Rattle.syn_ty.proofs.ty_laws.complete.Forms.{optional_met}
 use Rattle.syn_ty.proofs.ty_laws.complete.Inputs.{bare_begins, bare_met, parted}

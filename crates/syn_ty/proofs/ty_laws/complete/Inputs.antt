@@ -1,29 +1,19 @@
 -- An argument of a pointer to a function, spelt clearly, is what its read answers and all that it takes: a type, perhaps after a name, or what is about `mut self` and held verbatim.
 use Rattle.std.proofs.lemmas.Bool.{and_from, and_right, not_from_false, or_from, or_left}
 use Rattle.std.proofs.Common.{◌≡◌, ℕ, ◌≤◌, Bool, true, false, ◌&&◌, ◌||◌, List, Option, Some, None, Ok, refl, ap, arith}
-use Rattle.token_core.specs.declared.span.Span.{Span}
-use Rattle.token_core.specs.declared.tree.Ident.{Ident}
-use Rattle.token_core.specs.Trees.{TokenStream}
-use Rattle.token_core.specs.Keywords.{is_keyword}
-use Rattle.token_core.specs.Reads.{Reader, after_one, is_done, is_text, sees_mark, sees_word}
-use Rattle.token_core.specs.Spellings.{last_char, IsMark, is_mark, is_word}
-use Rattle.token_core.specs.Stream.{Scope}
+use Rattle.syn_ty.proofs.ty_laws.words.Tokens.{Span, Ident, TokenStream, is_keyword, Reader, after_one, is_done, is_text, sees_mark, sees_word, last_char, IsMark, is_mark, is_word, Scope, Toks, word}
+use Rattle.syn_ty.proofs.ty_laws.words.Paths.{ReadValues}
+use Rattle.syn_ty.proofs.ty_laws.words.Forms.{Plus, sees_mut_self, sees_name, ahead}
+use Rattle.syn_ty.proofs.ty_laws.words.Types.{is_name, is_argument_name, IsMutSelf, mut_self, mut_self_typed, named_mut_self, IsNamedArg, a_named_argument, a_verbatim_argument, Manner, clearly, End, Parts, Holds, NamedArg, TypeTree, named_arg_of}
 use Rattle.token_core.specs.Tokens as token
-use Rattle.token_core.specs.Toks.{Toks, word}
 use Rattle.token_core.proofs.Steps.{link, chosen, Reads_to}
 use Rattle.token_core.proofs.Took.{at}
 use Rattle.token_core.proofs.WordSpells.{word_complete}
-use Rattle.syn_path.specs.Values.{ReadValues}
-use Rattle.syn_forms.specs.declared.places.TypePlace.TheVariants.{Plus}
 use Rattle.syn_forms.specs.inputs.Reading as inputs
-use Rattle.syn_forms.specs.inputs.Reading.{Name, sees_dots, sees_mut_self, sees_name}
-use Rattle.syn_forms.specs.nested.Below.{ahead}
+use Rattle.syn_forms.specs.inputs.Reading.{Name, sees_dots}
 use Rattle.syn_ty.specs.declared.ty.TypeOf.TheVariants as form
-use Rattle.syn_ty.specs.ty.Functions.{is_name, is_argument_name, IsMutSelf, mut_self, mut_self_typed, named_mut_self, IsNamedArg, an_argument, a_named_argument, a_verbatim_argument}
-use Rattle.syn_ty.specs.ty.Parts.{Manner, clearly, End, Parts, Holds}
+use Rattle.syn_ty.specs.ty.Functions.{an_argument}
 use Rattle.syn_ty.specs.ty.Reading as reading
-use Rattle.syn_ty.specs.ty.Trees.{NamedArg, TypeTree}
-use Rattle.syn_ty.specs.ty.Types.{named_arg_of}
 use Rattle.syn_ty.proofs.ty_laws.complete.Capture.{since_met}
 use Rattle.syn_ty.proofs.ty_laws.complete.Leaves.{later}
 use Rattle.syn_ty.proofs.ty_laws.complete.Less.{less_less, less_no, mark_no, no_less, word_less, word_takes}

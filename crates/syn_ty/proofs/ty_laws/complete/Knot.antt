@@ -1,39 +1,11 @@
 -- The reads that go back to themselves, tied, are complete: at every height of a tree, what a list spells clearly is what they answer, and they take no more.
 use Rattle.std.proofs.Common.{◌≡◌, ◌⊎◌, ℕ, zero, suc, ◌≤◌, Bool, true, false, List, Option, Ok, ◌∙◌, arith, ◌<◌, ap}
-use Rattle.token_core.specs.declared.lifetime.Lifetime.{Lifetime}
-use Rattle.token_core.specs.declared.span.Span.{Span}
-use Rattle.token_core.specs.Lifetimes.{sees_lifetime}
-use Rattle.token_core.specs.Reads.{Reader}
-use Rattle.token_core.specs.Spellings.{IsLifetime}
-use Rattle.token_core.specs.Stream.{Scope, Stream}
 use Rattle.token_core.specs.Tokens as token
-use Rattle.token_core.specs.Toks.{Toks}
 use Rattle.token_core.proofs.Steps.{Reads_to}
 use Rattle.token_core.proofs.Took.{at}
-use Rattle.syn_path.specs.Supplied.{UsesUp}
-use Rattle.syn_path.specs.Values.{ReadValues, SpelledValues}
-use Rattle.syn_forms.specs.declared.places.BoundPlace.{BoundPlace}
-use Rattle.syn_forms.specs.declared.places.BoundPlace.TheVariants.{Object}
-use Rattle.syn_forms.specs.declared.places.ParamPlace.{ParamPlace}
-use Rattle.syn_forms.specs.declared.places.TypePlace.{TypePlace}
-use Rattle.syn_forms.specs.declared.places.TypePlace.TheVariants.{Plus}
-use Rattle.syn_forms.specs.nested.Below.{ahead, below_if, held}
-use Rattle.syn_forms.specs.places.Reading.{allows_plus}
-use Rattle.syn_ty.specs.generics.Bounds.{IsBound, IsFor, IsTraitBound}
-use Rattle.syn_ty.specs.generics.Parameters.{IsParam}
+use Rattle.syn_forms.specs.nested.Below.{below_if, held}
 use Rattle.syn_ty.specs.generics.Reading as generics
-use Rattle.syn_ty.specs.path.Arguments.{ArgumentPlace, between_angles, IsArgument}
-use Rattle.syn_ty.specs.path.Reading.{argument_step, arguments_step, parenthesized, sees_const}
-use Rattle.syn_ty.specs.path.Signed.{IsParens}
-use Rattle.syn_ty.specs.path.Spelling.{IsArguments}
-use Rattle.syn_ty.specs.ty.Admitted.{IsType}
 use Rattle.syn_ty.specs.ty.Knot as knot
-use Rattle.syn_ty.specs.ty.Knot.{read, reads_below, step, ty}
-use Rattle.syn_ty.specs.ty.Parts.{Manner, clearly, End, Parts}
-use Rattle.syn_ty.specs.ty.Points.{Point, a_bound, a_param, a_type, an_argument, some_arguments, Readers, Tree}
-use Rattle.syn_ty.specs.ty.Reading.{type_step}
-use Rattle.syn_ty.specs.ty.Spelt.{spelt_to}
-use Rattle.syn_ty.specs.ty.Trees.{BoundLifetimes, GenericArgument, GenericParam, Parenthesized, PathArguments, TraitBound, TypeParamBound, TypeTree}
 use Rattle.syn_ty.proofs.ty_laws.complete.Angles.{arguments_met}
 use Rattle.syn_ty.proofs.ty_laws.complete.Arguments.{EndsArgument, argument_met, name_is_type}
 use Rattle.syn_ty.proofs.ty_laws.complete.Bound.{bound_met}
@@ -49,6 +21,10 @@ use Rattle.syn_ty.proofs.ty_laws.complete.Traits.{trait_in_met}
 use Rattle.syn_ty.proofs.ty_laws.complete.TypeForms.{type_forms}
 use Rattle.syn_ty.proofs.ty_laws.complete.Types.{TypeForms, type_met}
 use Rattle.std.proofs.lemmas.Bool.{lt-ltb}
+use Rattle.syn_ty.proofs.ty_laws.words.Tokens.{Lifetime, Span, sees_lifetime, Reader, IsLifetime, Scope, Stream, Toks}
+use Rattle.syn_ty.proofs.ty_laws.words.Paths.{UsesUp, ReadValues, SpelledValues}
+use Rattle.syn_ty.proofs.ty_laws.words.Forms.{BoundPlace, Object, ParamPlace, TypePlace, Plus, ahead, allows_plus}
+use Rattle.syn_ty.proofs.ty_laws.words.Types.{IsBound, IsFor, IsTraitBound, IsParam, ArgumentPlace, between_angles, IsArgument, argument_step, arguments_step, parenthesized, sees_const, IsParens, IsArguments, IsType, read, reads_below, step, ty, Manner, clearly, End, Parts, Point, a_bound, a_param, a_type, an_argument, some_arguments, Readers, Tree, type_step, spelt_to, BoundLifetimes, GenericArgument, GenericParam, Parenthesized, PathArguments, TraitBound, TypeParamBound, TypeTree}
 
 -- a read that is asked only where less than a limit is left
 pub below_met : {P B : Type 0} (p : P → Reader B) (limit : ℕ) (place : P) (x : B) (l k : Toks) (f : Option Span) (e : Span) (sc : Scope) → ahead (at l f e sc) < limit → Reads_to (p place) x l k f e sc → Reads_to (held p limit place) x l k f e sc

@@ -1,30 +1,12 @@
 -- Fewer tokens are left after a token, after a list of values that each take some, and after a macro call.
 use Rattle.std.proofs.Common.{◌≡◌, ℕ, Bool, false, List, ◌∷◌, Option, subst, arith}
-use Rattle.token_core.specs.declared.lifetime.Lifetime.{Lifetime}
-use Rattle.token_core.specs.declared.lit.LitStr.{LitStr}
-use Rattle.token_core.specs.declared.mark.Mark.{Mark}
-use Rattle.token_core.specs.declared.span.DelimSpan.{DelimSpan}
-use Rattle.token_core.specs.declared.span.Span.{Span}
-use Rattle.token_core.specs.declared.tree.Delimiter.{Delimiter}
-use Rattle.token_core.specs.declared.tree.Ident.{Ident}
-use Rattle.token_core.specs.declared.tree.Punct.{Punct}
-use Rattle.token_core.specs.declared.tree.Spacing.TheVariants.{Joint}
-use Rattle.token_core.specs.declared.word.Word.{Word}
-use Rattle.token_core.specs.Listed.{AreListed, none_left, last_value, value_and_mark}
+use Rattle.syn_ty.proofs.ty_laws.words.Tokens.{Lifetime, LitStr, Mark, DelimSpan, Span, Delimiter, Ident, Punct, Joint, Word, AreListed, none_left, last_value, value_and_mark, last_char, more_chars, IsMark, is_mark, IsWord, is_word, IsLifetime, is_lifetime, IsStr, Bytes, Toks, word, mark, group, punct}
+use Rattle.syn_ty.proofs.ty_laws.words.Paths.{Macro, PathOf, PathSegmentOf, IsCall, a_macro, Sep, IsLeading, no_leading, leading, AreSegments, last_segment, more_segments, IsBarePath, a_bare_path}
+use Rattle.syn_ty.proofs.ty_laws.words.Forms.{PointerMutability, IsMutability, a_const, a_mut}
+use Rattle.syn_ty.proofs.ty_laws.words.Types.{Relation, IsOptional, absent, present}
 use Rattle.token_core.specs.Marks.{chars_of}
-use Rattle.token_core.specs.Spellings.{AreChars, no_char, last_char, more_chars, IsMark, is_mark, IsWord, is_word, IsLifetime, is_lifetime, IsStr, a_str}
-use Rattle.token_core.specs.Toks.{Bytes, Toks, word, mark, group}
-use Rattle.token_core.specs.Trees.{punct}
-use Rattle.syn_path.specs.declared.mac.Macro.{Macro}
-use Rattle.syn_path.specs.declared.path.PathOf.{PathOf}
-use Rattle.syn_path.specs.declared.path.PathSegmentOf.{PathSegmentOf}
-use Rattle.syn_path.specs.mac.Spelling.{IsCall, a_macro}
-use Rattle.syn_path.specs.path.Paths.{Sep}
-use Rattle.syn_path.specs.path.Spelling.{IsLeading, no_leading, leading, AreSegments, last_segment, more_segments, IsBarePath, a_bare_path}
-use Rattle.syn_forms.specs.declared.tokens.PointerMutability.{PointerMutability}
-use Rattle.syn_forms.specs.tokens.Spelling.{IsMutability, a_const, a_mut}
+use Rattle.token_core.specs.Spellings.{AreChars, no_char, a_str}
 use Rattle.syn_forms.proofs.nested_laws.Ahead.{weight-group}
-use Rattle.syn_ty.specs.ty.Spelling.{Relation, IsOptional, absent, present}
 use Rattle.syn_ty.proofs.ty_laws.complete.Within.{Less, NoMore}
 
 -- ---- one after the other

@@ -1,26 +1,17 @@
 -- The modifiers of a trait bound, spelt clearly, are what their read answers and all that it takes, where what follows begins with none of them.
 use Rattle.std.proofs.Common.{◌≡◌, Bool, true, false, Option, None, Ok, refl}
-use Rattle.token_core.specs.declared.span.DelimSpan.{DelimSpan}
-use Rattle.token_core.specs.declared.span.Span.{Span}
-use Rattle.token_core.specs.declared.tree.Delimiter.TheVariants.{Bracket}
+use Rattle.syn_ty.proofs.ty_laws.words.Tokens.{DelimSpan, Span, Bracket, sees_group, sees_word, IsWord, is_word, Scope, Stream, Toks, done, group}
+use Rattle.syn_ty.proofs.ty_laws.words.Forms.{in_brackets}
+use Rattle.syn_ty.proofs.ty_laws.words.Types.{BoundConst, TraitBoundModifiers, IsConstness, no_constness, a_const, a_conditional_const, AreModifiers, some_modifiers, IsOptional, absent, present}
 use Rattle.token_core.specs.Groups as groups
-use Rattle.token_core.specs.Reads.{sees_group, sees_word}
-use Rattle.token_core.specs.Spellings.{IsWord, is_word}
-use Rattle.token_core.specs.Stream.{Scope, Stream}
 use Rattle.token_core.specs.Tokens as token
-use Rattle.token_core.specs.Toks.{Toks, done, group}
 use Rattle.token_core.proofs.Steps.{link, chosen, Reads_to}
 use Rattle.token_core.proofs.Took.{at, leaves_none}
 use Rattle.token_core.proofs.WordSpells.{word_complete, word_seen}
-use Rattle.syn_forms.specs.groups.Reading.{in_brackets}
 use Rattle.syn_forms.specs.tokens.Reading.{asyncness}
 use Rattle.syn_forms.proofs.groups_laws.Complete.{reads_inside}
-use Rattle.syn_ty.specs.declared.generics.BoundConst.{BoundConst}
-use Rattle.syn_ty.specs.declared.generics.TraitBoundModifiers.{TraitBoundModifiers}
-use Rattle.syn_ty.specs.generics.Bounds.{IsConstness, no_constness, a_const, a_conditional_const, AreModifiers, some_modifiers}
 use Rattle.syn_ty.specs.generics.Reading as reading
 use Rattle.syn_ty.specs.generics.Reading.{allowed}
-use Rattle.syn_ty.specs.ty.Spelling.{IsOptional, absent, present}
 use Rattle.syn_ty.proofs.ty_laws.complete.Less.{group_less, no_no, optional_no, same, some, word_takes}
 use Rattle.syn_ty.proofs.ty_laws.complete.Within.{NoMore}
 

@@ -1,39 +1,14 @@
 -- A type that begins with a path, perhaps after a binder, goes the way of what follows the path: it is a macro call, a trait object, or the path.
 use Rattle.std.proofs.Common.{◌≡◌, ℕ, ◌≤◌, Bool, true, false, ◌||◌, List, Option, is_some, refl, ap}
-use Rattle.token_core.specs.declared.span.Span.{Span}
-use Rattle.token_core.specs.declared.tree.Delimiter.TheVariants.{Parenthesis}
-use Rattle.token_core.specs.declared.tree.Ident.{Ident}
-use Rattle.token_core.specs.Groups.{sees_invisible}
-use Rattle.token_core.specs.Listed.{AreListed, Nowhere, none_left, last_value, value_and_mark}
-use Rattle.token_core.specs.Positions.{Item}
-use Rattle.token_core.specs.Reads.{Reader, is_text, sees_group, sees_mark, sees_word}
-use Rattle.token_core.specs.Spellings.{IsMark, is_mark, last_char, more_chars, is_word}
-use Rattle.token_core.specs.Stream.{Scope}
+use Rattle.syn_ty.proofs.ty_laws.words.Tokens.{Span, Parenthesis, Ident, sees_invisible, AreListed, Nowhere, none_left, last_value, value_and_mark, Item, Reader, is_text, sees_group, sees_mark, sees_word, IsMark, is_mark, last_char, more_chars, is_word, Scope, Bytes, Toks, word}
+use Rattle.syn_ty.proofs.ty_laws.words.Paths.{AsWritten, sees_sep, ReadValues}
+use Rattle.syn_ty.proofs.ty_laws.words.Forms.{Binder, TypePlace, ahead, is_bare_word, is_named_word, allows_plus, position}
+use Rattle.syn_ty.proofs.ty_laws.words.Types.{IsFor, binder, a_binder, Sep, is_segment_word, IsSegment, a_word, a_word_with_arguments, IsPath, a_path, IsQualified, by_type, by_type_as_path, IsAnyPath, unqualified, qualified, Manner, clearly, Parts, Readers, begins_named, sees_bindable, sees_builtin, sees_fn_ptr, sees_unsafe_binder, IsOptional, absent, present, BoundLifetimes, Path, PathSegment, QSelf, TypeFnPtr, TypeTree}
 use Rattle.token_core.specs.Tokens as token
-use Rattle.token_core.specs.Toks.{Bytes, Toks, word}
 use Rattle.token_core.proofs.Steps.{Reads_to, chosen, link}
 use Rattle.token_core.proofs.Took.{at}
-use Rattle.syn_path.specs.declared.path.PathStyle.TheVariants.{AsWritten}
-use Rattle.syn_path.specs.path.Reading.{sees_sep}
-use Rattle.syn_path.specs.Values.{ReadValues}
-use Rattle.syn_forms.specs.declared.places.ParamPlace.TheVariants.{Binder}
-use Rattle.syn_forms.specs.declared.places.TypePlace.{TypePlace}
-use Rattle.syn_forms.specs.nested.Below.{ahead}
-use Rattle.syn_forms.specs.paths.Reading.{is_bare_word, is_named_word}
-use Rattle.syn_forms.specs.places.Reading.{allows_plus}
-use Rattle.syn_forms.specs.verbatim.Reading.{position}
 use Rattle.syn_ty.specs.declared.ty.TypeOf.TheVariants as v
-use Rattle.syn_ty.specs.generics.Bounds.{IsFor}
-use Rattle.syn_ty.specs.generics.Reading.{binder}
-use Rattle.syn_ty.specs.generics.Spelling.{a_binder}
-use Rattle.syn_ty.specs.path.Paths.{Sep}
-use Rattle.syn_ty.specs.path.Spelling.{is_segment_word, IsSegment, a_word, a_word_with_arguments, IsPath, a_path, IsQualified, by_type, by_type_as_path, IsAnyPath, unqualified, qualified}
-use Rattle.syn_ty.specs.ty.Parts.{Manner, clearly, Parts}
-use Rattle.syn_ty.specs.ty.Points.{Readers}
 use Rattle.syn_ty.specs.ty.Reading as reading
-use Rattle.syn_ty.specs.ty.Reading.{begins_named, sees_bindable, sees_builtin, sees_fn_ptr, sees_unsafe_binder}
-use Rattle.syn_ty.specs.ty.Spelling.{IsOptional, absent, present}
-use Rattle.syn_ty.specs.ty.Trees.{BoundLifetimes, Path, PathSegment, QSelf, TypeFnPtr, TypeTree}
 use Rattle.syn_ty.proofs.ty_laws.complete.Less.{less_no, listed_no, mark_no, no_no, word_takes}
 use Rattle.syn_ty.proofs.ty_laws.complete.Within.{Firsts, Less, PathStops, PathsMeet}
 use Rattle.syn_ty.proofs.ty_laws.complete.Tokens.{NameBegins, PathBegins, Turn, lt_begins, mod_segment, no_pound_arguments, sep_begins, word_begins, word_no_lt}

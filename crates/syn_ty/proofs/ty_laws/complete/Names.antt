@@ -2,23 +2,15 @@
 use Rattle.std.proofs.lemmas.Bool.{and_left, eqb-true, or_parts}
 use Rattle.std.proofs.lemmas.Slice.Eq.{bytes_eq-Decides}
 use Rattle.std.proofs.Common.{◌≡◌, Bool, true, false, not, ◌&&◌, ◌==◌, if◌then◌else◌, [], ◌∷◌, Option, Some, None, is_some, refl, sym, ◌∙◌, ap, arith}
-use Rattle.token_core.specs.declared.mark.Spans.{Spans}
-use Rattle.token_core.specs.declared.span.Span.{Span}
-use Rattle.token_core.specs.declared.tree.Ident.{Ident}
-use Rattle.token_core.specs.Front.{front}
-use Rattle.token_core.specs.Keywords.{is_keyword}
-use Rattle.token_core.specs.Reads.{after_front, after_mark, after_one, after_quote, as_punct, as_word, is_joint, is_text, meets, next_word, optional, past_mark, past_next, put_first, read_word, second, sees_mark, sees_word}
-use Rattle.token_core.specs.Spellings.{IsMark, is_mark, IsWord, is_word}
-use Rattle.token_core.specs.Stream.{Scope}
+use Rattle.syn_ty.proofs.ty_laws.words.Tokens.{Spans, Span, Ident, front, is_keyword, after_one, as_punct, as_word, is_joint, is_text, next_word, optional, past_mark, past_next, read_word, second, sees_mark, sees_word, IsMark, is_mark, IsWord, is_word, Scope, Bytes, Toks, done, word, mark, lit, group, enter, leave, ident}
+use Rattle.syn_ty.proofs.ty_laws.words.Forms.{sees_mut_self, sees_name}
+use Rattle.syn_ty.proofs.ty_laws.words.Types.{is_name, is_argument_name}
+use Rattle.token_core.specs.Reads.{after_front, after_mark, after_quote, meets, put_first}
 use Rattle.token_core.specs.Tokens as token
-use Rattle.token_core.specs.Toks.{Bytes, Toks, done, word, mark, lit, group, enter, leave}
-use Rattle.token_core.specs.Trees.{ident}
 use Rattle.token_core.proofs.MarkSpells.{longer_unseen, mark_complete, mark_seen}
 use Rattle.token_core.proofs.Steps.{link, chosen, Reads_to}
 use Rattle.token_core.proofs.Took.{at}
 use Rattle.syn_forms.specs.inputs.Reading as inputs
-use Rattle.syn_forms.specs.inputs.Reading.{sees_mut_self, sees_name}
-use Rattle.syn_ty.specs.ty.Functions.{is_name, is_argument_name}
 use Rattle.syn_ty.proofs.ty_laws.complete.Within.{TypeBegins}
 use Rattle.syn_ty.proofs.ty_laws.complete.Signatures.{EndsInput}
 use Rattle.syn_ty.proofs.ty_laws.complete.Tokens.{other_mark}

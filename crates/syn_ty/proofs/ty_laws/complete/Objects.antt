@@ -3,55 +3,21 @@ use Rattle.std.specs.List.{list_any}
 use Rattle.std.proofs.lemmas.Bool.{eqb-true}
 use Rattle.std.proofs.lemmas.Slice.Eq.{bytes_eq-Decides}
 use Rattle.std.proofs.Common.{◌≡◌, ◌||◌, ◌==◌, ℕ, ◌<◌, ◌≤◌, Bool, true, false, List, [], ◌∷◌, Option, Some, None, Ok, refl, sym, ◌∙◌, ap, subst, arith}
+use Rattle.syn_ty.proofs.ty_laws.words.Tokens.{Lifetime, Span, Ident, Punct, is_keyword, read_lifetime, sees_lifetime, AreListed, none_left, last_value, value_and_mark, Anywhere, Nowhere, AfterMark, Many, never, Item, Reader, ◌>>=◌, pure, here, is_text, sees_group, sees_mark, sees_word, IsMark, is_mark, last_char, more_chars, IsWord, is_word, is_lifetime, Scope, Stream, Bytes, Toks, done, word, mark, lit, group, enter, leave, TokenStream, punct}
+use Rattle.syn_ty.proofs.ty_laws.words.Paths.{AsWritten}
+use Rattle.syn_ty.proofs.ty_laws.words.Forms.{BoundPlace, Object, Opaque, TypePlace, sees_bound, stops_bound, is_bare_word, ahead, allows_const, allows_plus, position}
+use Rattle.syn_ty.proofs.ty_laws.words.Types.{TraitBoundModifiers, AreModifiers, IsTrait, a_trait, a_trait_for, a_trait_asked, a_trait_bound, IsBound, a_lifetime_bound, a_bare_bound, a_bound_in_parens, a_capture_bound, AreBounds, named_bound, bound_step, a_binder, Sep, AreSigned, IsBoundPath, a_signed, signed_after, signed_last, with_parens, without_parens, is_segment_word, IsPath, IsSegment, a_path, a_word, a_word_with_arguments, ends_lone, IsBoundList, several_bounds, one_bound, AreObjectBounds, object_bounds, IsDyn, a_dyn, IsImpl, an_impl, IsObject, an_object, AreFurther, none_further, some_further, Manner, clearly, End, Holds, Parts, Readers, a_bound, is_trait, object_of, IsOptional, absent, present, BoundLifetimes, Path, PathSegment, TypeImplTrait, TypeParamBound, TypeTraitObject, trait_object_with}
 use Rattle.token_core.specs.declared.error.ErrorKind.{ErrorKind}
 use Rattle.token_core.specs.declared.error.ErrorKind.TheVariants.{NoTraitInImpl, NoTraitInObject}
-use Rattle.token_core.specs.declared.lifetime.Lifetime.{Lifetime}
-use Rattle.token_core.specs.declared.span.Span.{Span}
-use Rattle.token_core.specs.declared.tree.Ident.{Ident}
-use Rattle.token_core.specs.declared.tree.Punct.{Punct}
-use Rattle.token_core.specs.Keywords.{is_keyword}
-use Rattle.token_core.specs.Lifetimes.{read_lifetime, sees_lifetime}
-use Rattle.token_core.specs.Listed.{AreListed, none_left, last_value, value_and_mark, Anywhere, Nowhere, AfterMark}
-use Rattle.token_core.specs.Loops.{Many, never}
-use Rattle.token_core.specs.Positions.{Item}
-use Rattle.token_core.specs.Reads.{Reader, ◌>>=◌, pure, here, is_text, sees_group, sees_mark, sees_word}
-use Rattle.token_core.specs.Spellings.{IsMark, is_mark, last_char, more_chars, IsWord, is_word, is_lifetime}
-use Rattle.token_core.specs.Stream.{Scope, Stream}
 use Rattle.token_core.specs.Tokens as token
-use Rattle.token_core.specs.Toks.{Bytes, Toks, done, word, mark, lit, group, enter, leave}
-use Rattle.token_core.specs.Trees.{TokenStream, punct}
 use Rattle.token_core.proofs.MarkSpells.{mark_complete, mark_seen}
 use Rattle.token_core.proofs.Steps.{link, chosen, Reads_to}
 use Rattle.token_core.proofs.Took.{at, mapped}
 use Rattle.token_core.proofs.Unseen.{no_mark-other}
 use Rattle.token_core.proofs.WordSpells.{word_complete, word_seen}
-use Rattle.syn_path.specs.declared.path.PathStyle.TheVariants.{AsWritten}
-use Rattle.syn_forms.specs.declared.places.BoundPlace.{BoundPlace}
-use Rattle.syn_forms.specs.declared.places.BoundPlace.TheVariants.{Object, Opaque}
-use Rattle.syn_forms.specs.declared.places.TypePlace.{TypePlace}
-use Rattle.syn_forms.specs.lists.Reading.{sees_bound, stops_bound}
-use Rattle.syn_forms.specs.paths.Reading.{is_bare_word}
-use Rattle.syn_forms.specs.nested.Below.{ahead}
-use Rattle.syn_forms.specs.places.Reading.{allows_const, allows_plus}
-use Rattle.syn_forms.specs.verbatim.Reading.{position}
-use Rattle.syn_ty.specs.declared.generics.TraitBoundModifiers.{TraitBoundModifiers}
 use Rattle.syn_ty.specs.declared.generics.TypeParamBoundOf.TheVariants as b
 use Rattle.syn_ty.specs.declared.ty.TypeOf.TheVariants as tree
-use Rattle.syn_ty.specs.generics.Bounds.{AreModifiers, IsTrait, a_trait, a_trait_for, a_trait_asked, a_trait_bound, IsBound, a_lifetime_bound, a_bare_bound, a_bound_in_parens, a_capture_bound, AreBounds}
-use Rattle.syn_ty.specs.generics.Params.{named_bound}
-use Rattle.syn_ty.specs.generics.Reading.{bound_step}
-use Rattle.syn_ty.specs.generics.Spelling.{a_binder}
-use Rattle.syn_ty.specs.path.Paths.{Sep}
-use Rattle.syn_ty.specs.path.Signed.{AreSigned, IsBoundPath, a_signed, signed_after, signed_last, with_parens, without_parens}
-use Rattle.syn_ty.specs.path.Spelling.{is_segment_word, IsPath, IsSegment, a_path, a_word, a_word_with_arguments}
-use Rattle.syn_ty.specs.ty.Objects.{ends_lone, IsBoundList, several_bounds, one_bound, AreObjectBounds, object_bounds, IsDyn, a_dyn, IsImpl, an_impl, IsObject, an_object, AreFurther, none_further, some_further}
-use Rattle.syn_ty.specs.ty.Parts.{Manner, clearly, End, Holds, Parts}
-use Rattle.syn_ty.specs.ty.Points.{Readers, a_bound}
 use Rattle.syn_ty.specs.ty.Reading as reading
-use Rattle.syn_ty.specs.ty.Reading.{is_trait, object_of}
-use Rattle.syn_ty.specs.ty.Spelling.{IsOptional, absent, present}
-use Rattle.syn_ty.specs.ty.Trees.{BoundLifetimes, Path, PathSegment, TypeImplTrait, TypeParamBound, TypeTraitObject}
-use Rattle.syn_ty.specs.ty.Types.{trait_object_with}
 use Rattle.syn_ty.proofs.ty_laws.complete.BoundLists.{ends_as, IsFurther, nothing_further, further, FirstOf, first_of, plus_stopped, closed_stopped, bounds_met, one_bound_met, bounds_from_met, each_bound_met}
 use Rattle.syn_ty.proofs.ty_laws.complete.Capture.{since_met}
 use Rattle.syn_ty.proofs.ty_laws.complete.Leaves.{later}

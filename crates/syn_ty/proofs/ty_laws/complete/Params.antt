@@ -2,59 +2,27 @@
 use Rattle.std.proofs.Common.{◌≡◌, ℕ, ◌<◌, ◌≤◌, Bool, true, false, not, ◌==◌, ◌&&◌, ◌||◌, if◌then◌else◌, List, [], ◌∷◌, Option, Some, None, is_some, Ok, Err, refl, sym, ◌∙◌, ap, subst, arith}
 use Rattle.std.proofs.lemmas.Bool.{eqb-true}
 use Rattle.std.proofs.lemmas.Slice.Eq.{bytes_eq-Decides}
-use Rattle.token_core.specs.declared.lifetime.Lifetime.{Lifetime}
-use Rattle.token_core.specs.declared.span.DelimSpan.{DelimSpan}
-use Rattle.token_core.specs.declared.span.Span.{Span}
-use Rattle.token_core.specs.declared.tree.Delimiter.TheVariants.{Parenthesis, Brace, Bracket}
+use Rattle.syn_ty.proofs.ty_laws.words.Tokens.{Lifetime, DelimSpan, Span, Parenthesis, Brace, Bracket, Ident, Punct, is_keyword, sees_lifetime, with_ident, read_lifetime, AreListed, Anywhere, Many, terminated, Reader, ◌>>=◌, ◌<$>◌, any_text, expected, ident_name, is_done, is_ident, is_joint, is_last, is_text, next_word, optional, past_mark, past_next, read_word, sees_group, sees_mark, sees_word, none, last_char, IsMark, is_mark, IsWord, is_word, IsLifetime, is_lifetime, Scope, Bytes, Toks, done, word, mark, lit, group, enter, leave}
+use Rattle.syn_ty.proofs.ty_laws.words.Paths.{sees_sep, ReadValues}
+use Rattle.syn_ty.proofs.ty_laws.words.Forms.{BoundPlace, Parameter, ParamPlace, Binder, Plus, bounds_to, ahead, comma, sees_gt}
+use Rattle.syn_ty.proofs.ty_laws.words.Types.{LifetimeParamOf, AreBounds, no_bounds, last_plus, last_bound, bound_and_plus, IsFor, IsGiven, given, AreLifetimes, IsLifetimeParam, a_lone_lifetime, a_lifetime_with_bounds, AreBoundsAfter, no_colon, after_colon, IsAnyType, any_type, IsTypeParam, a_type_param, IsConstParam, a_const_param, IsParam, a_lifetime_param, a_named_param, a_constant_param, a_bare_param, bound_lifetimes_of, const_param_of, lifetime_param_of, type_param_of, binder, optional_binder, param_after, param_step, in_binder, in_generics, a_binder, ends_constraint, reads_below, Manner, clearly, End, Parts, Readers, a_bound, a_param, a_type, sees_call, Relation, IsOptional, absent, present, BoundLifetimes, ConstParam, GenericParam, TypeParam, TypeParamBound, TypeTree}
 use Rattle.token_core.specs.declared.tree.Delimiter.TheVariants as d
-use Rattle.token_core.specs.declared.tree.Ident.{Ident}
-use Rattle.token_core.specs.declared.tree.Punct.{Punct}
-use Rattle.token_core.specs.Keywords.{is_keyword}
 use Rattle.token_core.specs.Lifetimes as lifetimes
-use Rattle.token_core.specs.Lifetimes.{sees_lifetime, with_ident, read_lifetime}
-use Rattle.token_core.specs.Listed.{AreListed, Anywhere}
-use Rattle.token_core.specs.Loops.{Many, terminated}
-use Rattle.token_core.specs.Reads.{Reader, ◌>>=◌, ◌<$>◌, any_text, expected, ident_name, is_done, is_ident, is_joint, is_last, is_text, next_word, optional, past_mark, past_next, read_word, sees_group, sees_mark, sees_word}
-use Rattle.token_core.specs.Spans.{none}
-use Rattle.token_core.specs.Spellings.{last_char, IsMark, is_mark, IsWord, is_word, IsLifetime, is_lifetime}
-use Rattle.token_core.specs.Stream.{Scope}
 use Rattle.token_core.specs.Tokens as token
-use Rattle.token_core.specs.Toks.{Bytes, Toks, done, word, mark, lit, group, enter, leave}
 use Rattle.token_core.proofs.MarkSpells.{mark_complete, mark_seen, mark_size}
 use Rattle.token_core.proofs.Steps.{link, chosen, Reads_to}
 use Rattle.token_core.proofs.Took.{at}
 use Rattle.token_core.proofs.Unseen.{no_mark-other}
 use Rattle.token_core.proofs.WordSpells.{word_complete, word_seen, lifetime_complete, lifetime_seen, lifetime_size}
-use Rattle.syn_path.specs.path.Reading.{sees_sep}
-use Rattle.syn_path.specs.Values.{ReadValues}
-use Rattle.syn_forms.specs.declared.places.BoundPlace.{BoundPlace}
-use Rattle.syn_forms.specs.declared.places.BoundPlace.TheVariants.{Parameter}
-use Rattle.syn_forms.specs.declared.places.ParamPlace.{ParamPlace}
-use Rattle.syn_forms.specs.declared.places.ParamPlace.TheVariants.{Binder, Generics}
-use Rattle.syn_forms.specs.declared.places.TypePlace.TheVariants.{Plus}
+use Rattle.syn_forms.specs.declared.places.ParamPlace.TheVariants.{Generics}
 use Rattle.syn_forms.specs.heads.Reading as heads
-use Rattle.syn_forms.specs.lists.Reading.{bounds_to}
-use Rattle.syn_forms.specs.nested.Below.{ahead}
 use Rattle.syn_forms.specs.params.Reading as parts
 use Rattle.syn_forms.specs.params.Reading.{bounds_after, default_of, ends_lifetime, ends_type}
-use Rattle.syn_forms.specs.tokens.Reading.{comma, sees_gt}
 use Rattle.syn_forms.proofs.lists_laws.Complete.{listed_here}
 use Rattle.syn_forms.proofs.nested_laws.Ahead.{ahead-is}
 use Rattle.syn_ty.specs.declared.generics.GenericParamOf.TheVariants as g
-use Rattle.syn_ty.specs.declared.generics.LifetimeParamOf.{LifetimeParamOf}
-use Rattle.syn_ty.specs.generics.Bounds.{AreBounds, no_bounds, last_plus, last_bound, bound_and_plus, IsFor}
-use Rattle.syn_ty.specs.generics.Parameters.{IsGiven, given, AreLifetimes, IsLifetimeParam, a_lone_lifetime, a_lifetime_with_bounds, AreBoundsAfter, no_colon, after_colon, IsAnyType, any_type, IsTypeParam, a_type_param, IsConstParam, a_const_param, IsParam, a_lifetime_param, a_named_param, a_constant_param, a_bare_param}
-use Rattle.syn_ty.specs.generics.Params.{bound_lifetimes_of, const_param_of, lifetime_param_of, type_param_of}
-use Rattle.syn_ty.specs.generics.Reading.{binder, lifetime_after, lifetime_param, optional_binder, param_after, param_step, sees_ident, type_after, type_param, const_after, const_param, in_binder, in_generics}
-use Rattle.syn_ty.specs.generics.Spelling.{a_binder}
-use Rattle.syn_ty.specs.path.Reading.{ends_constraint}
+use Rattle.syn_ty.specs.generics.Reading.{lifetime_after, lifetime_param, sees_ident, type_after, type_param, const_after, const_param}
 use Rattle.syn_ty.specs.ty.Knot as knot
-use Rattle.syn_ty.specs.ty.Knot.{reads_below}
-use Rattle.syn_ty.specs.ty.Parts.{Manner, clearly, End, Parts}
-use Rattle.syn_ty.specs.ty.Points.{Readers, a_bound, a_param, a_type}
-use Rattle.syn_ty.specs.ty.Reading.{sees_call}
-use Rattle.syn_ty.specs.ty.Spelling.{Relation, IsOptional, absent, present}
-use Rattle.syn_ty.specs.ty.Trees.{BoundLifetimes, ConstParam, GenericParam, TypeParam, TypeParamBound, TypeTree}
 use Rattle.syn_ty.proofs.ty_laws.complete.BoundLists.{bounds_to_met}
 use Rattle.syn_ty.proofs.ty_laws.complete.Leaves.{later, not_more, comma_light}
 use Rattle.syn_ty.proofs.ty_laws.complete.Less.{same, some, no_no, no_less, less_no, less_less, mark_takes, word_takes, word_less}

@@ -2,72 +2,28 @@
 use Rattle.std.specs.List.{list_any}
 use Rattle.std.proofs.Common.{◌≡◌, ℕ, ◌<◌, ◌≤◌, Bool, true, false, ◌==◌, if◌then◌else◌, List, [], ◌∷◌, Option, Some, None, is_some, Ok, ◌⊎◌, inl, inr, refl, sym, ◌∙◌, ap, arith}
 use Rattle.std.proofs.lemmas.Bool.{eqb-true}
-use Rattle.token_core.specs.declared.lifetime.Lifetime.{Lifetime}
-use Rattle.token_core.specs.declared.mark.Spans.{Spans}
-use Rattle.token_core.specs.declared.span.DelimSpan.{DelimSpan}
-use Rattle.token_core.specs.declared.span.Span.{Span}
-use Rattle.token_core.specs.declared.token.Paren.{Paren}
-use Rattle.token_core.specs.declared.tree.Delimiter.{Delimiter}
-use Rattle.token_core.specs.declared.tree.Delimiter.TheVariants.{Parenthesis}
-use Rattle.token_core.specs.declared.tree.Ident.{Ident}
-use Rattle.token_core.specs.declared.tree.Punct.{Punct}
-use Rattle.token_core.specs.declared.tree.Spacing.{Spacing}
-use Rattle.token_core.specs.declared.word.Word.{Word}
-use Rattle.token_core.specs.Front.{front}
+use Rattle.syn_ty.proofs.ty_laws.words.Tokens.{Lifetime, Spans, DelimSpan, Span, Paren, Delimiter, Parenthesis, Ident, Punct, Spacing, Word, front, sees_lifetime, with_ident, AreListed, AfterMark, Nowhere, none_left, last_value, value_and_mark, Many, as_punct, is_done, is_joint, past_mark, past_next, sees_mark, none, IsMark, is_mark, last_char, more_chars, IsWord, is_word, Scope, Toks, done, word, mark, group, punct}
+use Rattle.syn_ty.proofs.ty_laws.words.Paths.{Macro, PathStyle, AsWritten, IsCall, no_leading, leading, last_segment, more_segments, a_bare_path}
+use Rattle.syn_ty.proofs.ty_laws.words.Forms.{ParenContent, Object, TypePlace, Plus, plus_follows, ahead}
+use Rattle.syn_ty.proofs.ty_laws.words.Types.{out-roll-TraitBoundOf, Abi, out-roll-TypePathOf, AreBounds, IsFor, IsTraitBound, a_trait_bound, a_trait_asked, no_constness, some_modifiers, no_modifiers, held_bound, named_bound, trait_bound_of, a_binder, Sep, IsAnyPath, IsPath, IsSegment, a_path, a_word, a_word_with_arguments, by_type, by_type_as_path, is_segment_word, qualified, unqualified, IsType, a_path_type, a_macro, a_bound_macro, an_object_with_dyn, an_object_without_dyn, an_impl_type, a_fn_type, a_ptr_type, a_reference_type, a_paren_type, a_tuple_type, a_slice_type, an_array_type, an_infer_type, a_never_type, a_verbatim_type, IsBorrow, a_borrow, a_mutable_borrow, a_lifetime_borrow, IsPointer, a_pointer, IsEnclosed, enclosed, bracketed, counted, IsElement, an_element, IsTupled, no_element, some_elements, IsVerbatimType, an_unsafe_binder, a_dyn_star, a_builtin, NoLifetime, IsAbi, an_abi, IsFnPtr, a_fn_ptr, AreBareBounds, AreFurther, IsAsked, IsDyn, a_dyn, IsFirst, a_first, a_first_for, an_asked, IsImpl, an_impl, asked_first, asked_in_two, held_and_plus, in_parens, lifetime_first, none_further, path_alone, path_and_plus, some_further, Manner, clearly, End, Parts, Readers, a_type, first_bound, is_trait, object_of, unqualified_layer, IsOptional, absent, present, an_infer, a_never, BoundLifetimes, Path, PathSegment, QSelf, TraitBound, TypeFnPtr, TypeImplTrait, TypeParamBound, TypeParen, TypePtr, TypeReference, TypeTraitObject, TypeTree, TypeTuple, paren_of, qualified_with, trait_object_with, tuple_of}
 use Rattle.token_core.specs.Groups as groups
-use Rattle.token_core.specs.Lifetimes.{next_word, sees_lifetime, with_ident, with_quote}
-use Rattle.token_core.specs.Listed.{AreListed, AfterMark, Nowhere, none_left, last_value, value_and_mark}
-use Rattle.token_core.specs.Loops.{Many}
-use Rattle.token_core.specs.Reads.{as_punct, is_done, is_joint, past_mark, past_next, sees_mark, three}
-use Rattle.token_core.specs.Spans.{none}
-use Rattle.token_core.specs.Spellings.{IsMark, is_mark, last_char, more_chars, IsWord, is_word}
-use Rattle.token_core.specs.Stream.{Scope}
+use Rattle.token_core.specs.Lifetimes.{next_word, with_quote}
+use Rattle.token_core.specs.Reads.{three}
 use Rattle.token_core.specs.Tokens as token
-use Rattle.token_core.specs.Toks.{Toks, done, word, mark, group}
-use Rattle.token_core.specs.Trees.{punct}
 use Rattle.token_core.proofs.MarkSpells.{mark_seen}
 use Rattle.token_core.proofs.Steps.{link, chosen, Reads_to}
 use Rattle.token_core.proofs.Took.{at}
 use Rattle.token_core.proofs.Unseen.{no_mark-other}
-use Rattle.syn_path.specs.declared.mac.Macro.{Macro}
-use Rattle.syn_path.specs.declared.path.PathStyle.{PathStyle}
-use Rattle.syn_path.specs.declared.path.PathStyle.TheVariants.{AsWritten}
-use Rattle.syn_path.specs.mac.Spelling.{IsCall, a_macro as a_call}
-use Rattle.syn_path.specs.path.Spelling.{no_leading, leading, last_segment, more_segments, a_bare_path}
-use Rattle.syn_forms.specs.declared.groups.ParenContent.{ParenContent}
+use Rattle.syn_path.specs.mac.Spelling.{a_macro as a_call}
 use Rattle.syn_forms.specs.declared.groups.ParenContent.TheVariants as held
-use Rattle.syn_forms.specs.declared.places.BoundPlace.TheVariants.{Object}
-use Rattle.syn_forms.specs.declared.places.TypePlace.{TypePlace}
-use Rattle.syn_forms.specs.declared.places.TypePlace.TheVariants.{Plus}
 use Rattle.syn_forms.specs.groups.Reading as inner
-use Rattle.syn_forms.specs.lists.Reading.{plus_follows}
-use Rattle.syn_forms.specs.nested.Below.{ahead}
 use Rattle.syn_forms.proofs.groups_laws.Complete.{content}
 use Rattle.syn_forms.proofs.nested_laws.Ahead.{weight-group}
-use Rattle.syn_ty.specs.declared.generics.TraitBoundOf.{out-roll-TraitBoundOf}
 use Rattle.syn_ty.specs.declared.generics.TypeParamBoundOf.TheVariants as b
-use Rattle.syn_ty.specs.declared.ty.Abi.{Abi}
 use Rattle.syn_ty.specs.declared.ty.TypeOf.TheVariants as v
-use Rattle.syn_ty.specs.declared.ty.TypePathOf.{out-roll-TypePathOf}
-use Rattle.syn_ty.specs.generics.Bounds.{AreBounds, IsFor, IsTraitBound, a_trait_bound, a_trait_asked, no_constness, some_modifiers}
-use Rattle.syn_ty.specs.generics.Modifiers.{no_modifiers}
 use Rattle.syn_ty.specs.generics.Params as params
-use Rattle.syn_ty.specs.generics.Params.{held_bound, named_bound, trait_bound_of}
 use Rattle.syn_ty.specs.generics.Reading.{trait_bound}
-use Rattle.syn_ty.specs.generics.Spelling.{a_binder}
-use Rattle.syn_ty.specs.path.Paths.{Sep}
-use Rattle.syn_ty.specs.path.Spelling.{IsAnyPath, IsPath, IsSegment, a_path, a_word, a_word_with_arguments, by_type, by_type_as_path, is_segment_word, qualified, unqualified}
-use Rattle.syn_ty.specs.ty.Admitted.{IsType, a_path_type, a_macro, a_bound_macro, an_object_with_dyn, an_object_without_dyn, an_impl_type, a_fn_type, a_ptr_type, a_reference_type, a_paren_type, a_tuple_type, a_slice_type, an_array_type, an_infer_type, a_never_type, a_verbatim_type}
-use Rattle.syn_ty.specs.ty.Admitted.{IsBorrow, a_borrow, a_mutable_borrow, a_lifetime_borrow, IsPointer, a_pointer, IsEnclosed, enclosed, bracketed, counted, IsElement, an_element, IsTupled, no_element, some_elements, IsVerbatimType, an_unsafe_binder, a_dyn_star, a_builtin, NoLifetime}
-use Rattle.syn_ty.specs.ty.Functions.{IsAbi, an_abi, IsFnPtr, a_fn_ptr}
-use Rattle.syn_ty.specs.ty.Objects.{AreBareBounds, AreFurther, IsAsked, IsDyn, a_dyn, IsFirst, a_first, a_first_for, an_asked, IsImpl, an_impl, asked_first, asked_in_two, held_and_plus, in_parens, lifetime_first, none_further, path_alone, path_and_plus, some_further}
-use Rattle.syn_ty.specs.ty.Parts.{Manner, clearly, End, Parts}
-use Rattle.syn_ty.specs.ty.Points.{Readers, a_type}
 use Rattle.syn_ty.specs.ty.Reading as reading
-use Rattle.syn_ty.specs.ty.Reading.{first_bound, is_trait, object_of, unqualified_layer}
-use Rattle.syn_ty.specs.ty.Spelling.{IsOptional, absent, present, an_infer, a_never}
-use Rattle.syn_ty.specs.ty.Trees.{BoundLifetimes, Path, PathSegment, QSelf, TraitBound, TypeFnPtr, TypeImplTrait, TypeParamBound, TypeParen, TypePtr, TypeReference, TypeTraitObject, TypeTree, TypeTuple}
-use Rattle.syn_ty.specs.ty.Types.{paren_of, qualified_with, trait_object_with, tuple_of}
 use Rattle.syn_ty.proofs.ty_laws.complete.Leaves.{later, not_more}
 use Rattle.syn_ty.proofs.ty_laws.complete.Forms.{comma_ended, done_there, element_begins, element_met, less_inside, more_met, parens_met}
 use Rattle.syn_ty.proofs.ty_laws.Kinds as kinds

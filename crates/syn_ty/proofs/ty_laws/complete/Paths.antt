@@ -2,38 +2,20 @@
 use Rattle.std.proofs.Common.{◌≡◌, ℕ, ◌<◌, ◌≤◌, ◌==◌, Bool, true, false, ◌||◌, if◌then◌else◌, List, Option, None, Ok, Err, refl, sym, ◌∙◌, ap, arith}
 use Rattle.std.proofs.lemmas.Bool.{true≢false, and_left, eqb-true, or_from}
 use Rattle.std.proofs.lemmas.Slice.Eq.{bytes_eq-Decides}
-use Rattle.token_core.specs.declared.span.Span.{Span}
-use Rattle.token_core.specs.declared.tree.Ident.{Ident}
-use Rattle.token_core.specs.declared.tree.Punct.{Punct}
-use Rattle.token_core.specs.Keywords.{is_keyword}
-use Rattle.token_core.specs.Listed.{AreListed, Nowhere, none_left, last_value, value_and_mark}
-use Rattle.token_core.specs.Loops.{never}
-use Rattle.token_core.specs.Reads.{after_one, any_text, expected, ident_name, is_text, next_word, read_word, sees_group, sees_mark, sees_word}
-use Rattle.token_core.specs.Spans.{none}
-use Rattle.token_core.specs.Spellings.{IsMark, is_mark, last_char, more_chars}
-use Rattle.token_core.specs.Stream.{Scope}
+use Rattle.syn_ty.proofs.ty_laws.words.Tokens.{Span, Ident, Punct, is_keyword, AreListed, Nowhere, none_left, last_value, value_and_mark, never, after_one, any_text, expected, ident_name, is_text, next_word, read_word, sees_group, sees_mark, sees_word, none, IsMark, is_mark, last_char, more_chars, Scope, Bytes, Toks, done, word, mark, lit, group, enter, leave}
+use Rattle.syn_ty.proofs.ty_laws.words.Paths.{PathStyle, AsWritten, Expr, segment_of, sees_sep, sep}
+use Rattle.syn_ty.proofs.ty_laws.words.Forms.{ahead, goes_on, is_bare_word, is_named_word, sees_arguments, sees_turbofish}
+use Rattle.syn_ty.proofs.ty_laws.words.Types.{Sep, no_arguments, Styled, IsSegment, a_word, a_word_with_arguments, AreSegments, IsPath, a_path, Manner, clearly, Parts, Readers, some_arguments, IsOptional, absent, present, Path, PathSegment}
 use Rattle.token_core.specs.Tokens as token
-use Rattle.token_core.specs.Toks.{Bytes, Toks, done, word, mark, lit, group, enter, leave}
 use Rattle.token_core.proofs.MarkSpells.{mark_seen}
 use Rattle.token_core.proofs.Steps.{Reads_to, chosen, link}
 use Rattle.token_core.proofs.Took.{at, seen_word}
 use Rattle.token_core.proofs.Unseen.{no_mark-other}
-use Rattle.syn_path.specs.declared.path.PathStyle.{PathStyle}
-use Rattle.syn_path.specs.declared.path.PathStyle.TheVariants.{AsWritten, Expr}
-use Rattle.syn_path.specs.path.Paths.{segment_of}
-use Rattle.syn_path.specs.path.Reading.{leading, sees_sep, sep}
-use Rattle.syn_forms.specs.nested.Below.{ahead}
+use Rattle.syn_path.specs.path.Reading.{leading}
 use Rattle.syn_forms.specs.paths.Reading as paths
-use Rattle.syn_forms.specs.paths.Reading.{goes_on, is_bare_word, is_named_word, sees_arguments, sees_turbofish}
 use Rattle.syn_forms.proofs.lists_laws.Complete.{listed_here}
 use Rattle.syn_forms.proofs.nested_laws.Ahead.{weight}
-use Rattle.syn_ty.specs.path.Paths.{Sep, no_arguments}
 use Rattle.syn_ty.specs.path.Reading as reads
-use Rattle.syn_ty.specs.path.Spelling.{Styled, IsSegment, a_word, a_word_with_arguments, AreSegments, IsPath, a_path}
-use Rattle.syn_ty.specs.ty.Parts.{Manner, clearly, Parts}
-use Rattle.syn_ty.specs.ty.Points.{Readers, some_arguments}
-use Rattle.syn_ty.specs.ty.Spelling.{IsOptional, absent, present}
-use Rattle.syn_ty.specs.ty.Trees.{Path, PathSegment}
 use Rattle.syn_ty.proofs.ty_laws.complete.Angles.{no_further, optional_sep_light, sep_less, sep_reads}
 use Rattle.syn_ty.proofs.ty_laws.complete.Leaves.{later}
 use Rattle.syn_ty.proofs.ty_laws.complete.Within.{Firsts, Less, Meets, PathStops}

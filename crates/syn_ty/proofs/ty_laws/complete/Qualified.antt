@@ -2,37 +2,19 @@
 use Rattle.std.specs.Prelude.{is_some}
 use Rattle.std.proofs.Common.{◌≡◌, ℕ, ◌<◌, ◌≤◌, Bool, true, false, List, Option, Some, None, refl, sym, ◌∙◌, arith}
 use Rattle.std.proofs.lemmas.Bool.{true≢false}
-use Rattle.token_core.specs.declared.span.Span.{Span}
-use Rattle.token_core.specs.declared.word.Word.{Word}
-use Rattle.token_core.specs.Lifetimes.{sees_lifetime}
-use Rattle.token_core.specs.Loops.{Many}
-use Rattle.token_core.specs.Reads.{sees_group, sees_mark, sees_word}
-use Rattle.token_core.specs.Spellings.{IsMark, is_mark, last_char, IsWord, is_word}
-use Rattle.token_core.specs.Stream.{Scope}
+use Rattle.syn_ty.proofs.ty_laws.words.Tokens.{Span, Word, sees_lifetime, Many, sees_group, sees_mark, sees_word, IsMark, is_mark, last_char, IsWord, is_word, Scope, Toks}
+use Rattle.syn_ty.proofs.ty_laws.words.Paths.{PathStyle, AsWritten, Expr, sees_sep, sep, SpelledValues}
+use Rattle.syn_ty.proofs.ty_laws.words.Forms.{Plus, ahead, goes_on, sees_arguments, sees_turbofish}
+use Rattle.syn_ty.proofs.ty_laws.words.Types.{Sep, no_arguments, IsAnyPath, qualified, unqualified, IsPath, a_path, IsQualified, by_type, by_type_as_path, Manner, clearly, End, Parts, Readers, a_type, some_arguments, sees_call, IsOptional, absent, present, IsPathAlone, a_path_alone, Path, PathSegment, QSelf, TypePath, TypeTree}
 use Rattle.token_core.specs.Tokens as token
-use Rattle.token_core.specs.Toks.{Toks}
 use Rattle.token_core.proofs.MarkSpells.{mark_complete, mark_seen}
 use Rattle.token_core.proofs.Steps.{Reads_to, chosen, link}
 use Rattle.token_core.proofs.Took.{at}
 use Rattle.token_core.proofs.WordSpells.{word_complete, word_seen}
-use Rattle.syn_path.specs.declared.path.PathStyle.{PathStyle}
-use Rattle.syn_path.specs.declared.path.PathStyle.TheVariants.{AsWritten, Expr}
-use Rattle.syn_path.specs.path.Reading.{sees_sep, sep}
-use Rattle.syn_path.specs.Values.{SpelledValues}
-use Rattle.syn_forms.specs.declared.places.TypePlace.TheVariants.{Plus}
-use Rattle.syn_forms.specs.nested.Below.{ahead}
 use Rattle.syn_forms.specs.paths.Reading as paths
-use Rattle.syn_forms.specs.paths.Reading.{goes_on, qualified_of, sees_arguments, sees_turbofish}
+use Rattle.syn_forms.specs.paths.Reading.{qualified_of}
 use Rattle.syn_forms.proofs.nested_laws.Ahead.{weight}
-use Rattle.syn_ty.specs.path.Paths.{Sep, no_arguments}
 use Rattle.syn_ty.specs.path.Reading as reads
-use Rattle.syn_ty.specs.path.Spelling.{IsAnyPath, qualified, unqualified, IsPath, a_path, IsQualified, by_type, by_type_as_path}
-use Rattle.syn_ty.specs.ty.Parts.{Manner, clearly, End, Parts}
-use Rattle.syn_ty.specs.ty.Points.{Readers, a_type, some_arguments}
-use Rattle.syn_ty.specs.ty.Reading.{sees_call}
-use Rattle.syn_ty.specs.ty.Spelling.{IsOptional, absent, present}
-use Rattle.syn_ty.specs.ty.Spelt.{IsPathAlone, a_path_alone}
-use Rattle.syn_ty.specs.ty.Trees.{Path, PathSegment, QSelf, TypePath, TypeTree}
 use Rattle.syn_ty.proofs.ty_laws.complete.Angles.{gt_less, lt_less, no_further, sep_less, sep_reads}
 use Rattle.syn_ty.proofs.ty_laws.complete.Leaves.{later}
 use Rattle.syn_ty.proofs.ty_laws.complete.Within.{Fits, Meets, PathStops, PathsMeet}

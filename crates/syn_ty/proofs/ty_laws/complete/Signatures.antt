@@ -1,42 +1,22 @@
 -- What is returned and arguments in parentheses, spelt clearly, are what their reads answer and all that they take.
 use Rattle.std.specs.Prelude.{not}
 use Rattle.std.proofs.Common.{◌≡◌, ℕ, ◌<◌, ◌≤◌, Bool, true, false, List, [], Option, Some, None, Ok, refl, ap, arith}
-use Rattle.token_core.specs.declared.span.DelimSpan.{DelimSpan}
-use Rattle.token_core.specs.declared.span.Span.{Span}
-use Rattle.token_core.specs.declared.tree.Delimiter.TheVariants.{Parenthesis}
+use Rattle.syn_ty.proofs.ty_laws.words.Tokens.{DelimSpan, Span, Parenthesis, sees_lifetime, AreListed, Anywhere, Outcome, Reader, ◌<$>◌, any_text, is_done, sees_group, sees_mark, sees_word, none, last_char, more_chars, IsMark, is_mark, Scope, Toks, done, group}
+use Rattle.syn_ty.proofs.ty_laws.words.Forms.{TypePlace, Plus, NoPlus, ahead, allows_plus, in_parens}
+use Rattle.syn_ty.proofs.ty_laws.words.Types.{parens_of, return_of, IsReturn, no_output, an_output, IsInput, an_input, IsParens, a_parens, Manner, clearly, End, Parts, Readers, a_type, sees_call, NamedArg, Parenthesized, ReturnType, TypeTree, named_arg_of}
 use Rattle.token_core.specs.Groups as groups
-use Rattle.token_core.specs.Lifetimes.{sees_lifetime}
-use Rattle.token_core.specs.Listed.{AreListed, Anywhere}
-use Rattle.token_core.specs.Reads.{Outcome, Reader, ◌<$>◌, any_text, is_done, sees_group, sees_mark, sees_word}
-use Rattle.token_core.specs.Spans.{none}
-use Rattle.token_core.specs.Spellings.{last_char, more_chars, IsMark, is_mark}
-use Rattle.token_core.specs.Stream.{Scope}
 use Rattle.token_core.specs.Tokens as token
-use Rattle.token_core.specs.Toks.{Toks, done, group}
 use Rattle.token_core.proofs.MarkSpells.{mark_complete, mark_seen, mark_size}
 use Rattle.token_core.proofs.Steps.{link, chosen, Reads_to}
 use Rattle.token_core.proofs.Took.{at, leaves_none}
-use Rattle.syn_forms.specs.declared.places.TypePlace.{TypePlace}
-use Rattle.syn_forms.specs.declared.places.TypePlace.TheVariants.{Plus, NoPlus}
 use Rattle.syn_forms.specs.heads.Reading as heads
 use Rattle.syn_forms.specs.inputs.Reading.{made_inputs, signature}
 use Rattle.syn_forms.specs.lists.Reading.{made}
-use Rattle.syn_forms.specs.nested.Below.{ahead}
-use Rattle.syn_forms.specs.places.Reading.{allows_plus}
-use Rattle.syn_forms.specs.groups.Reading.{in_parens}
 use Rattle.syn_forms.proofs.groups_laws.Complete.{content, content_ahead, reads_inside}
 use Rattle.syn_forms.proofs.lists_laws.Complete.{listed_here}
 use Rattle.syn_forms.proofs.nested_laws.Ahead.{weight, weight-group}
-use Rattle.syn_ty.specs.path.Paths.{parens_of}
 use Rattle.syn_ty.specs.path.Reading as reads
-use Rattle.syn_ty.specs.path.Reading.{return_of}
-use Rattle.syn_ty.specs.path.Signed.{IsReturn, no_output, an_output, IsInput, an_input, IsParens, a_parens}
-use Rattle.syn_ty.specs.ty.Parts.{Manner, clearly, End, Parts}
-use Rattle.syn_ty.specs.ty.Points.{Readers, a_type}
 use Rattle.syn_ty.specs.ty.Reading as reading
-use Rattle.syn_ty.specs.ty.Reading.{sees_call}
-use Rattle.syn_ty.specs.ty.Trees.{NamedArg, Parenthesized, ReturnType, TypeTree}
-use Rattle.syn_ty.specs.ty.Types.{named_arg_of}
 use Rattle.syn_ty.proofs.ty_laws.complete.Leaves.{comma_light, later, not_more}
 use Rattle.syn_ty.proofs.ty_laws.complete.Within.{Fits, Less, Meets, Stops}
 

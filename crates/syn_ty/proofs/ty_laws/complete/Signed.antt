@@ -1,34 +1,20 @@
 -- The path of a trait bound, spelt clearly, is what is read up to its arguments in parentheses and then with them, and all that is taken.
 use Rattle.std.specs.Prelude.{not}
 use Rattle.std.proofs.Common.{◌≡◌, ◌&&◌, ◌||◌, ℕ, ◌<◌, ◌≤◌, Bool, true, false, List, [], ◌∷◌, Option, Some, None, Ok, refl, ◌∙◌, ap, arith}
-use Rattle.token_core.specs.declared.span.Span.{Span}
-use Rattle.token_core.specs.declared.tree.Delimiter.TheVariants.{Parenthesis}
-use Rattle.token_core.specs.declared.tree.Ident.{Ident}
-use Rattle.token_core.specs.Listed.{AreListed, Nowhere, none_left, last_value, value_and_mark}
-use Rattle.token_core.specs.Reads.{after_one, optional, sees_group, sees_mark, third}
-use Rattle.token_core.specs.Spellings.{last_char, more_chars, IsMark, is_mark}
-use Rattle.token_core.specs.Stream.{Scope}
+use Rattle.syn_ty.proofs.ty_laws.words.Tokens.{Span, Parenthesis, Ident, AreListed, Nowhere, none_left, last_value, value_and_mark, after_one, optional, sees_group, sees_mark, third, last_char, more_chars, IsMark, is_mark, Scope, Bytes, Toks, word}
+use Rattle.syn_ty.proofs.ty_laws.words.Paths.{AsWritten, path_of, segment_of, sees_sep, sep}
+use Rattle.syn_ty.proofs.ty_laws.words.Forms.{ahead, goes_on, is_bare_word, is_named_word, last_with, sees_turbofish, with_arguments}
+use Rattle.syn_ty.proofs.ty_laws.words.Types.{Sep, angle_of, is_empty, no_arguments, parenthesized, sees_signature, signed, takes_signature, AreSigned, IsBoundPath, IsParens, a_pair_dropped, a_parens, a_sep_dropped, a_signed, nothing_dropped, signed_after, signed_last, with_parens, without_parens, AreSegments, IsArguments, IsSegment, an_angle, is_segment_word, a_path, a_word, a_word_with_arguments, Manner, clearly, End, Parts, Readers, IsOptional, absent, present, Parenthesized, Path, PathArguments, PathSegment}
 use Rattle.token_core.specs.Tokens as token
-use Rattle.token_core.specs.Toks.{Bytes, Toks, word}
 use Rattle.token_core.proofs.MarkSpells.{mark_complete, mark_seen}
 use Rattle.token_core.proofs.Steps.{link, chosen, Reads_to}
 use Rattle.token_core.proofs.Took.{at}
-use Rattle.syn_path.specs.declared.path.PathStyle.TheVariants.{AsWritten}
-use Rattle.syn_path.specs.path.Paths.{path_of, segment_of}
-use Rattle.syn_path.specs.path.Reading.{sees_sep, sep}
-use Rattle.syn_forms.specs.nested.Below.{ahead}
-use Rattle.syn_forms.specs.paths.Reading.{goes_on, is_bare_word, is_named_word, last_arguments, last_with, sees_turbofish, with_arguments}
+use Rattle.syn_forms.specs.paths.Reading.{last_arguments}
 use Rattle.syn_forms.proofs.nested_laws.Ahead.{weight, ahead-is}
 use Rattle.syn_ty.specs.declared.path.PathArgumentsOf.TheVariants as a
-use Rattle.syn_ty.specs.path.Paths.{Sep, angle_of, empty_layer, is_empty, no_arguments}
+use Rattle.syn_ty.specs.path.Paths.{empty_layer}
 use Rattle.syn_ty.specs.path.Reading as reads
-use Rattle.syn_ty.specs.path.Reading.{parenthesized, sees_signature, signed, takes_signature}
-use Rattle.syn_ty.specs.path.Signed.{AreSigned, IsBoundPath, IsParens, a_pair_dropped, a_parens, a_sep_dropped, a_signed, nothing_dropped, signed_after, signed_last, with_parens, without_parens}
-use Rattle.syn_ty.specs.path.Spelling.{AreSegments, IsArguments, IsSegment, an_angle, is_segment_word, a_path, a_word, a_word_with_arguments, some_arguments}
-use Rattle.syn_ty.specs.ty.Parts.{Manner, clearly, End, Parts}
-use Rattle.syn_ty.specs.ty.Points.{Readers}
-use Rattle.syn_ty.specs.ty.Spelling.{IsOptional, absent, present}
-use Rattle.syn_ty.specs.ty.Trees.{Parenthesized, Path, PathArguments, PathSegment}
+use Rattle.syn_ty.specs.path.Spelling.{some_arguments}
 use Rattle.syn_ty.proofs.ty_laws.complete.Within.{Fits, Meets, PathStops, PathsMeet, Stops}
 
 -- ---- what a path begins with

@@ -2,43 +2,15 @@
 use Rattle.std.proofs.Common.{◌≡◌, ℕ, Bool, true, false, ◌&&◌, ◌||◌, ◌==◌, if◌then◌else◌, List, [], ◌∷◌, Option, Some, None, is_some, refl, sym, ◌∙◌, ap}
 use Rattle.std.proofs.lemmas.Bool.{eqb-true}
 use Rattle.std.proofs.lemmas.Slice.Eq.{bytes_eq-Decides}
-use Rattle.token_core.specs.declared.lifetime.Lifetime.{Lifetime}
-use Rattle.token_core.specs.declared.span.DelimSpan.{DelimSpan}
-use Rattle.token_core.specs.declared.span.Span.{Span}
-use Rattle.token_core.specs.declared.tree.Delimiter.TheVariants.{Parenthesis, Bracket}
-use Rattle.token_core.specs.declared.tree.Ident.{Ident}
-use Rattle.token_core.specs.declared.tree.Punct.{Punct}
-use Rattle.token_core.specs.Front.{front}
-use Rattle.token_core.specs.Groups.{sees_invisible}
-use Rattle.token_core.specs.Keywords.{is_keyword}
-use Rattle.token_core.specs.Lifetimes.{sees_lifetime}
-use Rattle.token_core.specs.Loops.{Many}
-use Rattle.token_core.specs.Reads.{Reader, after_one, as_punct, is_ident, is_last, is_text, past_mark, past_next, sees_group, sees_mark, sees_word}
-use Rattle.token_core.specs.Spellings.{IsMark, is_mark, last_char, more_chars, IsWord, is_word, IsLifetime, is_lifetime}
-use Rattle.token_core.specs.Stream.{Scope}
+use Rattle.syn_ty.proofs.ty_laws.words.Tokens.{Lifetime, DelimSpan, Span, Parenthesis, Bracket, Ident, Punct, front, sees_invisible, is_keyword, sees_lifetime, Many, Reader, after_one, as_punct, is_ident, is_last, is_text, past_mark, past_next, sees_group, sees_mark, sees_word, IsMark, is_mark, last_char, more_chars, IsWord, is_word, IsLifetime, is_lifetime, Scope, Bytes, Toks, word, group}
+use Rattle.syn_ty.proofs.ty_laws.words.Paths.{AsWritten, sees_sep, is_mod_word, ReadValues}
+use Rattle.syn_ty.proofs.ty_laws.words.Forms.{TypePlace, sees_arguments, sees_turbofish, allows_plus}
+use Rattle.syn_ty.proofs.ty_laws.words.Types.{Abi, TypeInferOf, TypeNeverOf, Sep, is_segment_word, IsAbi, an_abi, Readers, begins_named, sees_bindable, sees_builtin, sees_fn_ptr, sees_unsafe_binder, IsOptional, absent, present, TypeImplTrait, TypeParamBound, TypePtr, TypeReference, TypeTree}
 use Rattle.token_core.specs.Tokens as token
-use Rattle.token_core.specs.Toks.{Bytes, Toks, word, group}
 use Rattle.token_core.proofs.Steps.{Reads_to, chosen, link}
 use Rattle.token_core.proofs.Took.{at}
-use Rattle.syn_path.specs.declared.path.PathStyle.TheVariants.{AsWritten}
-use Rattle.syn_path.specs.path.Reading.{sees_sep}
-use Rattle.syn_path.specs.path.Spelling.{is_mod_word}
-use Rattle.syn_path.specs.Values.{ReadValues}
-use Rattle.syn_forms.specs.declared.places.TypePlace.{TypePlace}
-use Rattle.syn_forms.specs.paths.Reading.{sees_arguments, sees_turbofish}
-use Rattle.syn_forms.specs.places.Reading.{allows_plus}
-use Rattle.syn_ty.specs.declared.ty.Abi.{Abi}
-use Rattle.syn_ty.specs.declared.ty.TypeInferOf.{TypeInferOf}
-use Rattle.syn_ty.specs.declared.ty.TypeNeverOf.{TypeNeverOf}
 use Rattle.syn_ty.specs.declared.ty.TypeOf.TheVariants as v
-use Rattle.syn_ty.specs.path.Paths.{Sep}
-use Rattle.syn_ty.specs.path.Spelling.{is_segment_word}
-use Rattle.syn_ty.specs.ty.Functions.{IsAbi, an_abi}
-use Rattle.syn_ty.specs.ty.Points.{Readers}
 use Rattle.syn_ty.specs.ty.Reading as reading
-use Rattle.syn_ty.specs.ty.Reading.{begins_named, sees_bindable, sees_builtin, sees_fn_ptr, sees_unsafe_binder}
-use Rattle.syn_ty.specs.ty.Spelling.{IsOptional, absent, present}
-use Rattle.syn_ty.specs.ty.Trees.{TypeImplTrait, TypeParamBound, TypePtr, TypeReference, TypeTree}
 
 -- ---- marks: no two of them that differ in their first characters stand in one place
 

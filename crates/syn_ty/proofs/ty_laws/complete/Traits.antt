@@ -1,39 +1,17 @@
 -- A trait bound, spelt clearly, is what its read answers and all that it takes, with modifiers before its path or without.
 use Rattle.std.proofs.lemmas.Slice.Eq.{bytes_eq-Decides}
 use Rattle.std.proofs.Common.{◌≡◌, ℕ, ◌≤◌, Bool, true, false, [], Option, Some, None, Ok, refl, sym, ◌∙◌, ap, arith}
-use Rattle.token_core.specs.declared.span.DelimSpan.{DelimSpan}
-use Rattle.token_core.specs.declared.span.Span.{Span}
-use Rattle.token_core.specs.declared.tree.Delimiter.TheVariants.{Parenthesis, Bracket}
-use Rattle.token_core.specs.Keywords.{is_keyword}
-use Rattle.token_core.specs.Lifetimes.{sees_lifetime}
-use Rattle.token_core.specs.Marks.{text_of}
-use Rattle.token_core.specs.Reads.{Reader, ◌>>=◌, is_text, sees_group, sees_mark, sees_word}
-use Rattle.token_core.specs.Spellings.{last_char, more_chars, IsMark, is_mark, IsWord, is_word}
-use Rattle.token_core.specs.Stream.{Scope, Stream}
+use Rattle.syn_ty.proofs.ty_laws.words.Tokens.{DelimSpan, Span, Parenthesis, Bracket, is_keyword, sees_lifetime, text_of, Reader, ◌>>=◌, is_text, sees_group, sees_mark, sees_word, last_char, more_chars, IsMark, is_mark, IsWord, is_word, Scope, Stream, Bytes, Toks, group}
+use Rattle.syn_ty.proofs.ty_laws.words.Paths.{AsWritten}
+use Rattle.syn_ty.proofs.ty_laws.words.Forms.{ahead, question}
+use Rattle.syn_ty.proofs.ty_laws.words.Types.{TraitBoundModifiers, AreModifiers, IsFor, a_trait, a_trait_for, a_trait_asked, IsTraitBound, a_trait_bound, trait_bound_of, binder, optional_binder, trait_after, trait_in, trait_of, a_binder, Sep, angle_of, parenthesized, signed, IsBoundPath, IsParens, is_segment_word, Manner, clearly, End, Parts, Readers, IsOptional, absent, present, BoundLifetimes, Parenthesized, Path, TraitBound}
 use Rattle.token_core.specs.Tokens as token
-use Rattle.token_core.specs.Toks.{Bytes, Toks, group}
 use Rattle.token_core.proofs.MarkSpells.{mark_complete, mark_seen}
 use Rattle.token_core.proofs.Steps.{link, chosen, Reads_to}
 use Rattle.token_core.proofs.Took.{at}
 use Rattle.token_core.proofs.WordSpells.{word_seen}
-use Rattle.syn_path.specs.declared.path.PathStyle.TheVariants.{AsWritten}
-use Rattle.syn_forms.specs.nested.Below.{ahead}
-use Rattle.syn_forms.specs.tokens.Reading.{question}
 use Rattle.syn_ty.specs.declared.path.PathArgumentsOf.TheVariants as a
-use Rattle.syn_ty.specs.declared.generics.TraitBoundModifiers.{TraitBoundModifiers}
-use Rattle.syn_ty.specs.generics.Bounds.{AreModifiers, IsFor, a_trait, a_trait_for, a_trait_asked, IsTraitBound, a_trait_bound}
-use Rattle.syn_ty.specs.generics.Params.{trait_bound_of}
-use Rattle.syn_ty.specs.generics.Reading.{binder, optional_binder, trait_after, trait_in, trait_of}
-use Rattle.syn_ty.specs.generics.Spelling.{a_binder}
-use Rattle.syn_ty.specs.path.Paths.{Sep, angle_of}
 use Rattle.syn_ty.specs.path.Reading as reads
-use Rattle.syn_ty.specs.path.Reading.{parenthesized, signed}
-use Rattle.syn_ty.specs.path.Signed.{IsBoundPath, IsParens}
-use Rattle.syn_ty.specs.path.Spelling.{is_segment_word}
-use Rattle.syn_ty.specs.ty.Parts.{Manner, clearly, End, Parts}
-use Rattle.syn_ty.specs.ty.Points.{Readers}
-use Rattle.syn_ty.specs.ty.Spelling.{IsOptional, absent, present}
-use Rattle.syn_ty.specs.ty.Trees.{BoundLifetimes, Parenthesized, Path, TraitBound}
 use Rattle.syn_ty.proofs.ty_laws.complete.Less.{mark_no, no_no, optional_no, some}
 use Rattle.syn_ty.proofs.ty_laws.complete.Within.{Fits, Meets, NoMore, PathsMeet}
 use Rattle.syn_ty.proofs.ty_laws.complete.Modifiers.{Unmodified, modifiers_begin, modifiers_met, modifiers_no}

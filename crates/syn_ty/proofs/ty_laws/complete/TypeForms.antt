@@ -1,34 +1,16 @@
 -- The laws of the single forms of types, put together: over what the forms hold, and over the reads of what stands where a form begins.
 use Rattle.std.proofs.Common.{◌≡◌, ℕ, ◌<◌, ◌≤◌, true, false, List, [], ◌∷◌, Option, refl, arith}
 use Rattle.std.specs.List.{list_any}
-use Rattle.token_core.specs.declared.lifetime.Lifetime.{Lifetime}
-use Rattle.token_core.specs.declared.span.Span.{Span}
+use Rattle.syn_ty.proofs.ty_laws.words.Tokens.{Lifetime, Span, sees_lifetime, AfterMark, Nowhere, Many, never, Reader, IsLifetime, Scope, Toks}
+use Rattle.syn_ty.proofs.ty_laws.words.Paths.{ReadValues}
+use Rattle.syn_ty.proofs.ty_laws.words.Forms.{Object, Plus, ahead, allows_plus}
+use Rattle.syn_ty.proofs.ty_laws.words.Types.{IsFor, IsTraitBound, AreBounds, IsType, AreFurther, none_further, some_further, Manner, clearly, End, Parts, Readers, a_type, is_trait, object_of, BoundLifetimes, TraitBound, TypeParamBound, TypeTree, fn_ptr_with}
 use Rattle.token_core.specs.Groups as groups
-use Rattle.token_core.specs.Lifetimes.{sees_lifetime}
-use Rattle.token_core.specs.Listed.{AfterMark, Nowhere}
-use Rattle.token_core.specs.Loops.{Many, never}
-use Rattle.token_core.specs.Reads.{Reader}
-use Rattle.token_core.specs.Spellings.{IsLifetime}
-use Rattle.token_core.specs.Stream.{Scope}
 use Rattle.token_core.specs.Tokens as token
-use Rattle.token_core.specs.Toks.{Toks}
 use Rattle.token_core.proofs.Steps.{Reads_to, link}
 use Rattle.token_core.proofs.Took.{at}
-use Rattle.syn_path.specs.Values.{ReadValues}
-use Rattle.syn_forms.specs.declared.places.BoundPlace.TheVariants.{Object}
-use Rattle.syn_forms.specs.declared.places.TypePlace.TheVariants.{Plus}
-use Rattle.syn_forms.specs.nested.Below.{ahead}
-use Rattle.syn_forms.specs.places.Reading.{allows_plus}
-use Rattle.syn_ty.specs.generics.Bounds.{IsFor, IsTraitBound, AreBounds}
 use Rattle.syn_ty.specs.generics.Reading as generics
-use Rattle.syn_ty.specs.ty.Admitted.{IsType}
-use Rattle.syn_ty.specs.ty.Objects.{AreFurther, none_further, some_further}
-use Rattle.syn_ty.specs.ty.Parts.{Manner, clearly, End, Parts}
-use Rattle.syn_ty.specs.ty.Points.{Readers, a_type}
 use Rattle.syn_ty.specs.ty.Reading as reading
-use Rattle.syn_ty.specs.ty.Reading.{is_trait, object_of}
-use Rattle.syn_ty.specs.ty.Trees.{BoundLifetimes, TraitBound, TypeParamBound, TypeTree}
-use Rattle.syn_ty.specs.ty.Types.{fn_ptr_with}
 use Rattle.syn_ty.proofs.ty_laws.complete.BoundLists.{IsFurther, closed_stopped, each_bound_met, further, nothing_further}
 use Rattle.syn_ty.proofs.ty_laws.complete.Forms.{array_type_met, borrow_met, pointer_met, slice_type_met}
 use Rattle.syn_ty.proofs.ty_laws.complete.Functions.{after_binder, fn_ptr_after_met}

@@ -1,55 +1,20 @@
 -- One turn of types is complete: a type that a list spells clearly in its place is what the reader answers, over the laws of the single forms.
 use Rattle.std.proofs.Common.{◌≡◌, ℕ, ◌≤◌, Bool, true, false, List, [], ◌∷◌, Option, Some, None, refl, sym, ◌∙◌, ap, subst}
 use Rattle.std.specs.List.{list_any}
-use Rattle.token_core.specs.declared.lifetime.Lifetime.{Lifetime}
-use Rattle.token_core.specs.declared.span.DelimSpan.{DelimSpan}
-use Rattle.token_core.specs.declared.span.Span.{Span}
-use Rattle.token_core.specs.declared.tree.Delimiter.TheVariants.{Parenthesis}
+use Rattle.syn_ty.proofs.ty_laws.words.Tokens.{Lifetime, DelimSpan, Span, Parenthesis, sees_lifetime, AfterMark, Nowhere, Many, Reader, sees_mark, IsMark, is_mark, last_char, IsWord, IsLifetime, Scope, Toks, done, group, mark, word, TokenStream, punct}
+use Rattle.syn_ty.proofs.ty_laws.words.Paths.{Macro, AsWritten, macro_of, IsCall, a_macro, sees_sep, ReadValues}
+use Rattle.syn_ty.proofs.ty_laws.words.Forms.{Object, TypePlace, Plus, NoPlus, plus_follows, ahead, allows_plus, position}
+use Rattle.syn_ty.proofs.ty_laws.words.Types.{Abi, FnPtrVariadicOf, TypeInferOf, TypeNeverOf, IsFor, AreBounds, no_bounds, last_bound, bound_and_plus, IsReturn, is_segment_word, IsAnyPath, unqualified, qualified, NoLifetime, IsVerbatimType, an_unsafe_binder, a_dyn_star, a_builtin, IsBorrow, a_borrow, a_mutable_borrow, a_lifetime_borrow, IsBracketed, bracketed, IsCounted, counted, IsEnclosed, enclosed, IsPointer, a_pointer, IsTupled, no_element, some_elements, IsType, a_path_type, a_bound_macro, an_object_with_dyn, an_object_without_dyn, an_impl_type, a_fn_type, a_ptr_type, a_reference_type, a_paren_type, a_tuple_type, a_slice_type, an_array_type, an_infer_type, a_never_type, a_verbatim_type, IsAbi, AreInputs, IsFnPtr, a_fn_ptr, in_parens, AreBareBounds, path_alone, path_and_plus, held_and_plus, asked_first, asked_in_two, lifetime_first, AreFurther, AreObjectBounds, IsAsked, IsDyn, a_dyn, IsFirst, a_first, a_first_for, IsImpl, an_impl, Manner, clearly, End, Parts, Holds, Readers, is_trait, object_of, IsInfer, an_infer, IsNever, a_never, IsOptional, absent, present, BoundLifetimes, NamedArg, Path, QSelf, ReturnType, TypeArray, TypeFnPtr, TypeImplTrait, TypeParamBound, TypeParen, TypePtr, TypeReference, TypeSlice, TypeTraitObject, TypeTree, TypeTuple, fn_ptr_with, macro_type_of, qualified_with}
 use Rattle.token_core.specs.Groups as groups
-use Rattle.token_core.specs.Lifetimes.{sees_lifetime}
-use Rattle.token_core.specs.Listed.{AfterMark, Nowhere}
-use Rattle.token_core.specs.Loops.{Many}
-use Rattle.token_core.specs.Reads.{Reader, sees_mark}
-use Rattle.token_core.specs.Spellings.{IsMark, is_mark, last_char, IsWord, IsLifetime}
-use Rattle.token_core.specs.Stream.{Scope}
 use Rattle.token_core.specs.Tokens as token
-use Rattle.token_core.specs.Toks.{Toks, done, group, mark, word}
-use Rattle.token_core.specs.Trees.{TokenStream, punct}
 use Rattle.token_core.proofs.Steps.{Reads_to}
 use Rattle.token_core.proofs.Took.{at}
-use Rattle.syn_path.specs.declared.mac.Macro.{Macro}
-use Rattle.syn_path.specs.declared.path.PathStyle.TheVariants.{AsWritten}
-use Rattle.syn_path.specs.mac.Macros.{macro_of}
-use Rattle.syn_path.specs.mac.Spelling.{IsCall, a_macro, bang_at}
-use Rattle.syn_path.specs.path.Reading.{sees_sep}
-use Rattle.syn_path.specs.Values.{ReadValues}
-use Rattle.syn_forms.specs.declared.places.BoundPlace.TheVariants.{Object}
-use Rattle.syn_forms.specs.declared.places.TypePlace.{TypePlace}
-use Rattle.syn_forms.specs.declared.places.TypePlace.TheVariants.{Plus, NoPlus}
-use Rattle.syn_forms.specs.lists.Reading.{plus_follows}
-use Rattle.syn_forms.specs.nested.Below.{ahead}
-use Rattle.syn_forms.specs.places.Reading.{allows_plus}
-use Rattle.syn_forms.specs.verbatim.Reading.{position}
+use Rattle.syn_path.specs.mac.Spelling.{bang_at}
 use Rattle.syn_forms.proofs.nested_laws.Ahead.{weight}
-use Rattle.syn_ty.specs.declared.ty.Abi.{Abi}
-use Rattle.syn_ty.specs.declared.ty.FnPtrVariadicOf.{FnPtrVariadicOf}
-use Rattle.syn_ty.specs.declared.ty.TypeInferOf.{TypeInferOf}
-use Rattle.syn_ty.specs.declared.ty.TypeNeverOf.{TypeNeverOf}
 use Rattle.syn_ty.specs.declared.ty.TypeOf.TheVariants as v
-use Rattle.syn_ty.specs.generics.Bounds.{IsFor, AreBounds, no_bounds, last_bound, bound_and_plus}
 use Rattle.syn_ty.specs.generics.Reading as generics
-use Rattle.syn_ty.specs.path.Signed.{IsReturn}
-use Rattle.syn_ty.specs.path.Spelling.{is_segment_word, IsAnyPath, unqualified, qualified}
-use Rattle.syn_ty.specs.ty.Admitted.{NoLifetime, IsVerbatimType, an_unsafe_binder, a_dyn_star, a_builtin, IsBorrow, a_borrow, a_mutable_borrow, a_lifetime_borrow, IsBracketed, bracketed, IsCounted, counted, IsEnclosed, enclosed, IsPointer, a_pointer, IsTupled, no_element, some_elements, IsType, a_path_type, a_macro as a_macro_type, a_bound_macro, an_object_with_dyn, an_object_without_dyn, an_impl_type, a_fn_type, a_ptr_type, a_reference_type, a_paren_type, a_tuple_type, a_slice_type, an_array_type, an_infer_type, a_never_type, a_verbatim_type}
-use Rattle.syn_ty.specs.ty.Functions.{IsAbi, AreInputs, IsFnPtr, a_fn_ptr}
-use Rattle.syn_ty.specs.ty.Objects.{in_parens, AreBareBounds, path_alone, path_and_plus, held_and_plus, asked_first, asked_in_two, lifetime_first, AreFurther, AreObjectBounds, IsAsked, IsDyn, a_dyn, IsFirst, a_first, a_first_for, IsImpl, an_impl}
-use Rattle.syn_ty.specs.ty.Parts.{Manner, clearly, End, Parts, Holds}
-use Rattle.syn_ty.specs.ty.Points.{Readers}
+use Rattle.syn_ty.specs.ty.Admitted.{a_macro as a_macro_type}
 use Rattle.syn_ty.specs.ty.Reading as reading
-use Rattle.syn_ty.specs.ty.Reading.{is_trait, object_of}
-use Rattle.syn_ty.specs.ty.Spelling.{IsInfer, an_infer, IsNever, a_never, IsOptional, absent, present}
-use Rattle.syn_ty.specs.ty.Trees.{BoundLifetimes, NamedArg, Path, QSelf, ReturnType, TypeArray, TypeFnPtr, TypeImplTrait, TypeParamBound, TypeParen, TypePtr, TypeReference, TypeSlice, TypeTraitObject, TypeTree, TypeTuple}
-use Rattle.syn_ty.specs.ty.Types.{fn_ptr_with, macro_type_of, qualified_with}
 use Rattle.syn_ty.proofs.ty_laws.complete.BoundLists.{plus_stops, plus_there}
 use Rattle.syn_ty.proofs.ty_laws.complete.Calls.{as_path, bang_no_pound, bang_stops, call_goes, call_path, lone_goes, object_goes, path_goes, path_object_met, qualified_goes}
 use Rattle.syn_ty.proofs.ty_laws.complete.Leaves.{infer_complete, never_complete}

@@ -1,41 +1,22 @@
 -- A type that is held as it was written and begins with `unsafe` and lifetimes, or with `builtin #`, perhaps after a binder, is read where its form is spelt clearly.
 use Rattle.std.proofs.Common.{◌≡◌, ℕ, ◌≤◌, Bool, true, false, not, ◌&&◌, List, Option, Ok, Err, if◌then◌else◌, refl, ◌∙◌, ap, arith}
 use Rattle.std.proofs.lemmas.Slice.Eq.{bytes_eq-Decides}
-use Rattle.token_core.specs.declared.lifetime.Lifetime.{Lifetime}
-use Rattle.token_core.specs.declared.span.DelimSpan.{DelimSpan}
-use Rattle.token_core.specs.declared.span.Span.{Span}
-use Rattle.token_core.specs.declared.tree.Delimiter.TheVariants.{Parenthesis}
-use Rattle.token_core.specs.declared.tree.Ident.{Ident}
-use Rattle.token_core.specs.Trees.{TokenStream}
+use Rattle.syn_ty.proofs.ty_laws.words.Tokens.{Lifetime, DelimSpan, Span, Parenthesis, Ident, TokenStream, is_keyword, read_lifetime, AreListed, Anywhere, terminated, after_one, any_text, builtin_text, expected, ident_name, is_ident, is_text, next_word, read_word, sees_mark, sees_word, IsMark, is_mark, last_char, IsWord, is_word, IsLifetime, is_lifetime, Scope, Bytes, Toks, word, group}
+use Rattle.syn_ty.proofs.ty_laws.words.Paths.{is_mod_word}
+use Rattle.syn_ty.proofs.ty_laws.words.Forms.{TypePlace, Plus, NoPlus, ahead, allows_plus, comma, sees_gt, position}
+use Rattle.syn_ty.proofs.ty_laws.words.Types.{Manner, clearly, End, Parts, Holds, Readers, last_place, sees_bindable, sees_builtin, sees_fn_ptr, sees_unsafe_binder, TypeTree}
 use Rattle.token_core.specs.Groups.{paren_name}
-use Rattle.token_core.specs.Keywords.{is_keyword}
-use Rattle.token_core.specs.Lifetimes.{read_lifetime}
-use Rattle.token_core.specs.Listed.{AreListed, Anywhere}
-use Rattle.token_core.specs.Loops.{terminated}
-use Rattle.token_core.specs.Reads.{after_one, any_text, builtin_text, expected, ident_name, inside, is_ident, is_text, next_word, open_group, read_word, sees_mark, sees_word}
-use Rattle.token_core.specs.Spellings.{IsMark, is_mark, last_char, IsWord, is_word, IsLifetime, is_lifetime}
-use Rattle.token_core.specs.Stream.{Scope}
+use Rattle.token_core.specs.Reads.{inside, open_group}
 use Rattle.token_core.specs.Tokens as token
-use Rattle.token_core.specs.Toks.{Bytes, Toks, word, group}
 use Rattle.token_core.proofs.MarkSpells.{mark_complete, mark_seen, mark_size}
 use Rattle.token_core.proofs.Steps.{Reads_to, link}
 use Rattle.token_core.proofs.Took.{at}
 use Rattle.token_core.proofs.WordSpells.{word_complete, lifetime_complete, lifetime_size}
-use Rattle.syn_path.specs.path.Spelling.{is_mod_word}
-use Rattle.syn_forms.specs.declared.places.TypePlace.{TypePlace}
-use Rattle.syn_forms.specs.declared.places.TypePlace.TheVariants.{Plus, NoPlus, Bounded}
+use Rattle.syn_forms.specs.declared.places.TypePlace.TheVariants.{Bounded}
 use Rattle.syn_forms.specs.heads.Reading as heads
-use Rattle.syn_forms.specs.nested.Below.{ahead}
-use Rattle.syn_forms.specs.places.Reading.{allows_plus}
-use Rattle.syn_forms.specs.tokens.Reading.{comma, sees_gt}
-use Rattle.syn_forms.specs.verbatim.Reading.{position}
 use Rattle.syn_forms.proofs.lists_laws.Complete.{listed_here}
 use Rattle.syn_ty.specs.declared.ty.TypeOf.TheVariants as v
-use Rattle.syn_ty.specs.ty.Parts.{Manner, clearly, End, Parts, Holds}
-use Rattle.syn_ty.specs.ty.Points.{Readers}
 use Rattle.syn_ty.specs.ty.Reading as reading
-use Rattle.syn_ty.specs.ty.Reading.{last_place, sees_bindable, sees_builtin, sees_fn_ptr, sees_unsafe_binder}
-use Rattle.syn_ty.specs.ty.Trees.{TypeTree}
 use Rattle.syn_ty.proofs.ty_laws.complete.Capture.{since_met}
 use Rattle.syn_ty.proofs.ty_laws.complete.Leaves.{later}
 use Rattle.syn_ty.proofs.ty_laws.complete.Less.{less_no, listed_no, lifetime_takes, mark_no, no_no, word_takes}

@@ -1,25 +1,14 @@
 -- Each whole read of this layer is complete: a tree that all of a list spells clearly by its promise is what it answers, and nothing is left over.
 use Rattle.std.proofs.Common.{◌≡◌, ℕ, Bool, true, false, List, [], ◌∷◌, Option, None, Ok, refl}
-use Rattle.token_core.specs.declared.span.Span.{Span}
-use Rattle.token_core.specs.Lits.{sees_str}
-use Rattle.token_core.specs.Reads.{Reader, is_done, leaves, sees_mark, sees_word}
-use Rattle.token_core.specs.Rebuilt.{Visible}
-use Rattle.token_core.specs.Stream.{Scope, Stream}
+use Rattle.syn_ty.proofs.ty_laws.words.Tokens.{Span, sees_str, Reader, is_done, leaves, sees_mark, sees_word, Visible, Scope, Stream, Bytes, Toks, done}
+use Rattle.syn_ty.proofs.ty_laws.words.Paths.{AsWritten, ReadValues, SpelledValues}
+use Rattle.syn_ty.proofs.ty_laws.words.Forms.{Opaque, Binder, TypePlace, allows_plus}
+use Rattle.syn_ty.proofs.ty_laws.words.Types.{alone, ends_constraint, clearly, closed}
 use Rattle.token_core.specs.Tokens as token
-use Rattle.token_core.specs.Toks.{Bytes, Toks, done}
 use Rattle.token_core.proofs.Steps.{Reads_to}
 use Rattle.token_core.proofs.Took.{at, leaves_none}
-use Rattle.syn_path.specs.declared.path.PathStyle.TheVariants.{AsWritten}
-use Rattle.syn_path.specs.Values.{ReadValues, SpelledValues}
-use Rattle.syn_forms.specs.declared.places.BoundPlace.TheVariants.{Opaque}
-use Rattle.syn_forms.specs.declared.places.ParamPlace.TheVariants.{Binder}
-use Rattle.syn_forms.specs.declared.places.TypePlace.{TypePlace}
-use Rattle.syn_forms.specs.places.Reading.{allows_plus}
 use Rattle.syn_ty.specs.generics.Reading as parts
-use Rattle.syn_ty.specs.path.Arguments.{alone}
-use Rattle.syn_ty.specs.path.Reading.{ends_constraint}
 use Rattle.syn_ty.specs.ty.Knot as knot
-use Rattle.syn_ty.specs.ty.Parts.{clearly, closed}
 use Rattle.syn_ty.specs.ty.Reading as reading
 use Rattle.syn_ty.specs.ty.Spelt as by
 use Rattle.syn_ty.proofs.ty_laws.complete.Alone as front

@@ -1,37 +1,16 @@
 -- What is known of the reads that a form holds: where a list spells a tree clearly and what follows does not go on with it, the read answers that tree and takes no more.
 use Rattle.std.specs.Prelude.{is_some}
 use Rattle.std.proofs.Common.{◌≡◌, ◌⊎◌, ◌&&◌, ◌||◌, not, ℕ, ◌<◌, ◌≤◌, Bool, true, false, List, Option, Ok}
-use Rattle.token_core.specs.declared.span.Span.{Span}
-use Rattle.token_core.specs.declared.tree.Delimiter.TheVariants.{Parenthesis, Brace, Bracket}
-use Rattle.token_core.specs.Lifetimes.{sees_lifetime}
-use Rattle.token_core.specs.Loops.{size}
-use Rattle.token_core.specs.Reads.{Reader, any_text, is_done, sees_group, sees_word}
-use Rattle.token_core.specs.Stream.{Stream, Scope}
+use Rattle.syn_ty.proofs.ty_laws.words.Tokens.{Span, Parenthesis, Brace, Bracket, sees_lifetime, size, Reader, any_text, is_done, sees_group, sees_word, Stream, Scope, Toks}
+use Rattle.syn_ty.proofs.ty_laws.words.Paths.{sees_sep, UsesUp, ReadValues, PathStyle, AsWritten}
+use Rattle.syn_ty.proofs.ty_laws.words.Forms.{BoundPlace, ParamPlace, TypePlace, sees_name, sees_bound, ahead, goes_on, sees_arguments, allows_const, allows_plus}
+use Rattle.syn_ty.proofs.ty_laws.words.Types.{IsAnyPath, IsPath, ends_constraint, sees_const, sees_lone_lifetime, Manner, clearly, End, Parts, Readers, a_bound, a_param, a_type, an_argument, some_arguments, sees_call, GenericArgument, GenericParam, Path, PathArguments, QSelf, TypeParamBound, TypeTree}
 use Rattle.token_core.specs.Tokens as token
-use Rattle.token_core.specs.Toks.{Toks}
 use Rattle.token_core.proofs.Steps.{Reads_to}
 use Rattle.token_core.proofs.Took.{at}
-use Rattle.syn_path.specs.path.Reading.{sees_angle, sees_sep}
-use Rattle.syn_path.specs.Supplied.{UsesUp}
-use Rattle.syn_path.specs.Values.{ReadValues}
-use Rattle.syn_forms.specs.declared.places.BoundPlace.{BoundPlace}
-use Rattle.syn_forms.specs.declared.places.ParamPlace.{ParamPlace}
-use Rattle.syn_forms.specs.declared.places.TypePlace.{TypePlace}
-use Rattle.syn_forms.specs.inputs.Reading.{sees_name}
-use Rattle.syn_forms.specs.lists.Reading.{sees_bound}
-use Rattle.syn_forms.specs.nested.Below.{ahead}
-use Rattle.syn_forms.specs.paths.Reading.{goes_on, sees_arguments}
-use Rattle.syn_forms.specs.places.Reading.{allows_const, allows_plus}
+use Rattle.syn_path.specs.path.Reading.{sees_angle}
 use Rattle.syn_forms.proofs.nested_laws.Ahead.{weight}
-use Rattle.syn_path.specs.declared.path.PathStyle.{PathStyle}
-use Rattle.syn_path.specs.declared.path.PathStyle.TheVariants.{AsWritten}
 use Rattle.syn_ty.specs.path.Reading as reads
-use Rattle.syn_ty.specs.path.Spelling.{IsAnyPath, IsPath}
-use Rattle.syn_ty.specs.path.Reading.{ends_constraint, sees_const, sees_lone_lifetime}
-use Rattle.syn_ty.specs.ty.Parts.{Manner, clearly, End, Parts}
-use Rattle.syn_ty.specs.ty.Points.{Readers, a_bound, a_param, a_type, an_argument, some_arguments}
-use Rattle.syn_ty.specs.ty.Reading.{sees_call}
-use Rattle.syn_ty.specs.ty.Trees.{GenericArgument, GenericParam, Path, PathArguments, QSelf, TypeParamBound, TypeTree}
 
 -- ---- what may follow
 

@@ -1,34 +1,19 @@
 -- Arguments in angle brackets print clearly in their normal form, where each argument does, as the arguments of a segment too, in both styles; with what forms one after the other print.
 use Rattle.std.proofs.Common.{◌≡◌, ℕ, Bool, true, false, List, ◌++◌, Option, Some, refl, sym, ◌∙◌, ap, subst}
 use Rattle.std.proofs.lemmas.Bool.{true≢false}
-use Rattle.token_core.specs.declared.mark.Mark.{Mark}
-use Rattle.token_core.specs.declared.tree.Ident.{Ident}
-use Rattle.token_core.specs.Loops.{Many}
+use Rattle.syn_ty.proofs.ty_laws.words.Tokens.{Mark, Ident, Many, Print, sees_mark, Visible, IsMark, is_mark, last_char, Bytes, Toks, word, row}
+use Rattle.syn_ty.proofs.ty_laws.words.Paths.{PathStyle, AsWritten, Expr, NormalValues, Values}
+use Rattle.syn_ty.proofs.ty_laws.words.Types.{Sep, angle_of, is_lifetime, Styled, IsAngle, an_angle, IsArguments, sorted, Manner, plainly, clearly, Parts, IsOptional, absent, present, AngleBracketed, GenericArgument, PathArguments, Comma}
 use Rattle.token_core.specs.Prints as p
-use Rattle.token_core.specs.Prints.{Print}
-use Rattle.token_core.specs.Reads.{sees_mark}
-use Rattle.token_core.specs.Rebuilt.{Visible}
-use Rattle.token_core.specs.Spellings.{IsMark, is_mark, last_char}
 use Rattle.token_core.specs.Tokens as token
-use Rattle.token_core.specs.Toks.{Bytes, Toks, word}
-use Rattle.token_core.specs.Trees.{row}
 use Rattle.token_core.proofs.MarkSpells.{mark_again, mark_seen}
 use Rattle.token_core.proofs.Rebuilds.{tree-ident}
 use Rattle.token_core.proofs.Rows.{row-append}
-use Rattle.syn_path.specs.declared.path.PathStyle.{PathStyle}
-use Rattle.syn_path.specs.declared.path.PathStyle.TheVariants.{AsWritten, Expr}
-use Rattle.syn_path.specs.Values.{NormalValues, Values}
 use Rattle.syn_path.proofs.Words.{AgainFront}
 use Rattle.syn_ty.specs.declared.path.PathArgumentsOf.TheVariants as a
-use Rattle.syn_ty.specs.path.Paths.{Sep, angle_of, is_lifetime}
-use Rattle.syn_ty.specs.path.Spelling.{Styled, IsAngle, an_angle, IsArguments, some_arguments}
-use Rattle.syn_ty.specs.generics.Members.{sorted}
+use Rattle.syn_ty.specs.path.Spelling.{some_arguments}
 use Rattle.syn_ty.specs.ty.Normal as normal
-use Rattle.syn_ty.specs.ty.Parts.{Manner, plainly, clearly, Parts}
 use Rattle.syn_ty.specs.ty.Printing as printing
-use Rattle.syn_ty.specs.ty.Spelling.{IsOptional, absent, present}
-use Rattle.syn_ty.specs.ty.Trees.{AngleBracketed, GenericArgument, PathArguments}
-use Rattle.syn_ty.specs.ty.Types.{Comma}
 use Rattle.syn_ty.proofs.ty_laws.reprint.Within.{Again}
 use Rattle.syn_ty.proofs.ty_laws.reprint.AnglesSorted.{sorted_again}
 use Rattle.syn_ty.proofs.ty_laws.reprint.Normals.{normal-AngleBracketed, argument_kept}

@@ -1,20 +1,13 @@
 -- A sorted list of values with commas prints clearly in its normal form, where each value does: those that come first, a comma where they need one, and the others.
 use Rattle.std.proofs.Common.{◌≡◌, Bool, true, false, not, ◌&&◌, if◌then◌else◌, List, [], ◌∷◌, ◌++◌, Some, None, map, refl, sym, ◌∙◌, ap, subst, append_assoc, append-nil}
 use Rattle.std.specs.Prelude.{cond, filter}
-use Rattle.token_core.specs.Listed.{AreListed, none_left, last_value, value_and_mark, Anywhere}
-use Rattle.token_core.specs.Loops.{Many}
+use Rattle.syn_ty.proofs.ty_laws.words.Tokens.{AreListed, none_left, last_value, value_and_mark, Anywhere, Many, Print, Visible, IsMark, Toks, row}
+use Rattle.syn_ty.proofs.ty_laws.words.Types.{Member, comma_of, lacks, some_left, adds, each, members, firsts, others, sorted, sort, many, Comma, comma}
 use Rattle.token_core.specs.Prints as p
-use Rattle.token_core.specs.Prints.{Print}
-use Rattle.token_core.specs.Rebuilt.{Visible}
-use Rattle.token_core.specs.Spellings.{IsMark}
-use Rattle.token_core.specs.Toks.{Toks}
-use Rattle.token_core.specs.Trees.{row}
 use Rattle.token_core.proofs.MarkSpells.{mark_again, mark_print, mark_visible, mark_whole}
 use Rattle.token_core.proofs.Rows.{row-append}
 use Rattle.syn_path.proofs.Words.{AgainFront}
-use Rattle.syn_ty.specs.generics.Members.{Member, comma_of, lacks, some_left, adds, completed, each, commas_of, values_of, members, firsts, others, added, sorted, first_members, in_order, sort}
-use Rattle.syn_ty.specs.generics.NormalShapes.{many}
-use Rattle.syn_ty.specs.ty.Types.{Comma, comma}
+use Rattle.syn_ty.specs.generics.Members.{completed, commas_of, values_of, added, first_members, in_order}
 use Rattle.syn_ty.proofs.generics_laws.Members.{true_false, sort_stays, sort_prints, sort_map, sorted_map, sorted_agrees}
 use Rattle.syn_ty.proofs.generics_laws.Sorted.{each_append}
 use Rattle.syn_ty.proofs.ty_laws.Each.{Each, map_stays}

@@ -1,36 +1,19 @@
 -- Arguments of paths, alone and between angle marks, print clearly in their normal form, where the types that may begin them do, and so do the names of associated items.
 use Rattle.std.proofs.Common.{◌≡◌, true, List, ◌++◌, Option, Some, None, refl, sym, ◌∙◌, ap, subst, append_assoc}
-use Rattle.token_core.specs.declared.lifetime.Lifetime.{Lifetime}
-use Rattle.token_core.specs.declared.tree.Ident.{Ident}
+use Rattle.syn_ty.proofs.ty_laws.words.Tokens.{Lifetime, Ident, Many, Print, Visible, IsLifetime, Toks, row}
+use Rattle.syn_ty.proofs.ty_laws.words.Paths.{AsWritten, is_mod_word, NormalValues, Values}
+use Rattle.syn_ty.proofs.ty_laws.words.Forms.{Parameter, Plus, is_named_word}
+use Rattle.syn_ty.proofs.ty_laws.words.Types.{out-PathArgumentsOf, AreBounds, ArgumentPlace, ConstraintEnds, IsItemName, an_item, an_item_with_arguments, IsArgument, a_lifetime_argument, a_type_argument, a_const_argument, an_assoc_type, an_assoc_const, a_constraint, assoc_const_of, assoc_type_of, constraint_of, Manner, plainly, clearly, End, Parts, Relation, AngleBracketed, GenericArgument, Layer, TypeParamBound, TypeTree}
 use Rattle.token_core.specs.Lifetimes as lifetimes
-use Rattle.token_core.specs.Loops.{Many}
 use Rattle.token_core.specs.Prints as p
-use Rattle.token_core.specs.Prints.{Print}
-use Rattle.token_core.specs.Rebuilt.{Visible}
-use Rattle.token_core.specs.Spellings.{IsLifetime}
 use Rattle.token_core.specs.Tokens as token
-use Rattle.token_core.specs.Toks.{Toks}
-use Rattle.token_core.specs.Trees.{row}
 use Rattle.token_core.proofs.WordSpells.{lifetime_again, lifetime_visible, lifetime_whole}
-use Rattle.syn_path.specs.declared.path.PathStyle.TheVariants.{AsWritten}
-use Rattle.syn_path.specs.path.Spelling.{is_mod_word}
-use Rattle.syn_path.specs.Values.{NormalValues, Values}
 use Rattle.syn_path.proofs.Words.{AgainFront}
-use Rattle.syn_forms.specs.declared.places.BoundPlace.TheVariants.{Parameter}
-use Rattle.syn_forms.specs.declared.places.TypePlace.TheVariants.{Plus}
-use Rattle.syn_forms.specs.paths.Reading.{is_named_word}
 use Rattle.syn_ty.specs.declared.generics.GenericParamOf.TheOpen as o
 use Rattle.syn_ty.specs.declared.path.GenericArgumentOf.TheVariants as k
-use Rattle.syn_ty.specs.declared.path.PathArgumentsOf.{out-PathArgumentsOf}
 use Rattle.syn_ty.specs.declared.path.PathArgumentsOf.TheVariants as a
-use Rattle.syn_ty.specs.generics.Bounds.{AreBounds}
-use Rattle.syn_ty.specs.path.Arguments.{ArgumentPlace, ConstraintEnds, IsItemName, an_item, an_item_with_arguments, IsArgument, a_lifetime_argument, a_type_argument, a_const_argument, an_assoc_type, an_assoc_const, a_constraint}
-use Rattle.syn_ty.specs.path.Paths.{assoc_const_of, assoc_type_of, constraint_of}
 use Rattle.syn_ty.specs.ty.Normal as normal
-use Rattle.syn_ty.specs.ty.Parts.{Manner, plainly, clearly, End, Parts}
 use Rattle.syn_ty.specs.ty.Printing as printing
-use Rattle.syn_ty.specs.ty.Spelling.{Relation}
-use Rattle.syn_ty.specs.ty.Trees.{AngleBracketed, GenericArgument, Layer, TypeParamBound, TypeTree}
 use Rattle.syn_ty.proofs.ty_laws.reprint.Within.{Again, SuppliedAgain}
 use Rattle.syn_ty.proofs.ty_laws.reprint.Angles.{Then, then_front, made_front, IsIdent, ident_front}
 use Rattle.syn_ty.proofs.ty_laws.reprint.Normals.{normal-AngleBracketed, normal-argument-Lifetime, normal-argument-Type, normal-argument-Const, normal-argument-AssocType, normal-argument-AssocConst, normal-argument-Constraint, assoc_type_normal, constraint_normal}

@@ -1,37 +1,18 @@
 -- The bounds of a trait object without `dyn` print their normal form clearly, where what they hold does; a further pair of parentheses is not printed.
 use Rattle.std.proofs.Common.{◌≡◌, Bool, true, false, is_some, List, [], ◌∷◌, ◌++◌, map, Option, None, Some, refl, sym, ◌∙◌, ap, subst}
-use Rattle.token_core.specs.declared.span.DelimSpan.{DelimSpan}
-use Rattle.token_core.specs.declared.tree.Delimiter.TheVariants.{Parenthesis}
-use Rattle.token_core.specs.declared.token.Paren.{Paren}
+use Rattle.syn_ty.proofs.ty_laws.words.Tokens.{DelimSpan, Parenthesis, Paren, sees_lifetime, Anywhere, Nowhere, AfterMark, Many, Print, Visible, IsMark, Toks, done, group, row, stream_of_trees}
+use Rattle.syn_ty.proofs.ty_laws.words.Paths.{AsWritten, NormalValues, Values}
+use Rattle.syn_ty.proofs.ty_laws.words.Forms.{Object, TypePlace, allows_plus}
+use Rattle.syn_ty.proofs.ty_laws.words.Types.{AreBounds, no_bounds, last_bound, bound_and_plus, no_modifiers, binder_by, ends_lone, IsFirst, a_first, a_first_for, IsAsked, an_asked, AreFurther, none_further, some_further, AreBareBounds, path_alone, path_and_plus, held_and_plus, asked_first, asked_in_two, lifetime_first, Manner, plainly, clearly, End, Parts, is_trait, BoundLifetimes, Path, TypeParamBound}
 use Rattle.token_core.specs.Groups as groups
-use Rattle.token_core.specs.Lifetimes.{sees_lifetime}
-use Rattle.token_core.specs.Listed.{Anywhere, Nowhere, AfterMark}
-use Rattle.token_core.specs.Loops.{Many}
 use Rattle.token_core.specs.Prints as p
-use Rattle.token_core.specs.Prints.{Print}
-use Rattle.token_core.specs.Rebuilt.{Visible}
-use Rattle.token_core.specs.Spellings.{IsMark}
 use Rattle.token_core.specs.Tokens as token
-use Rattle.token_core.specs.Toks.{Toks, done, group}
-use Rattle.token_core.specs.Trees.{row, stream_of_trees}
 use Rattle.token_core.proofs.Rows.{row-append}
-use Rattle.syn_path.specs.declared.path.PathStyle.TheVariants.{AsWritten}
-use Rattle.syn_path.specs.Values.{NormalValues, Values}
 use Rattle.syn_path.proofs.Words.{AgainFront}
-use Rattle.syn_forms.specs.declared.places.BoundPlace.TheVariants.{Object}
-use Rattle.syn_forms.specs.declared.places.TypePlace.{TypePlace}
-use Rattle.syn_forms.specs.places.Reading.{allows_plus}
 use Rattle.syn_ty.specs.declared.generics.TypeParamBoundOf.TheVariants as b
-use Rattle.syn_ty.specs.generics.Bounds.{AreBounds, no_bounds, last_bound, bound_and_plus}
-use Rattle.syn_ty.specs.generics.Modifiers.{no_modifiers}
-use Rattle.syn_ty.specs.generics.NormalShapes.{binder_by}
 use Rattle.syn_ty.specs.path.Printing.{path}
 use Rattle.syn_ty.specs.ty.Normal as normal
-use Rattle.syn_ty.specs.ty.Objects.{ends_lone, IsFirst, a_first, a_first_for, IsAsked, an_asked, AreFurther, none_further, some_further, AreBareBounds, path_alone, path_and_plus, held_and_plus, asked_first, asked_in_two, lifetime_first}
-use Rattle.syn_ty.specs.ty.Parts.{Manner, plainly, clearly, End, Parts}
 use Rattle.syn_ty.specs.ty.Printing as printing
-use Rattle.syn_ty.specs.ty.Reading.{is_trait}
-use Rattle.syn_ty.specs.ty.Trees.{BoundLifetimes, Path, TypeParamBound}
 use Rattle.syn_ty.proofs.ty_laws.reprint.Within.{Again, SuppliedAgain}
 use Rattle.syn_ty.proofs.ty_laws.reprint.Bound.{Named, print_named, with_parens, named_normal, named_prints, bounds_again}
 use Rattle.syn_ty.proofs.ty_laws.reprint.Objects.{any_kept, is_trait_kept}

@@ -2,43 +2,20 @@
 use Rattle.std.proofs.Common.{◌≡◌, ◌&&◌, ◌==◌, ℕ, Bool, true, false, List, [], ◌++◌, length, Some, refl, sym, ◌∙◌, ap, subst}
 use Rattle.std.proofs.lemmas.Bool.{or_left}
 use Rattle.std.proofs.lemmas.Slice.Eq.{bytes_eq-Decides}
-use Rattle.token_core.specs.declared.span.DelimSpan.{DelimSpan}
-use Rattle.token_core.specs.declared.tree.Delimiter.{Delimiter}
-use Rattle.token_core.specs.declared.tree.Ident.{Ident}
-use Rattle.token_core.specs.declared.tree.Punct.{Punct}
-use Rattle.token_core.specs.declared.tree.Spacing.TheVariants.{Joint}
-use Rattle.token_core.specs.declared.word.Word.{Word}
-use Rattle.token_core.specs.Keywords.{is_keyword}
-use Rattle.token_core.specs.Listed.{AreListed, none_left, last_value, value_and_mark, Nowhere}
-use Rattle.token_core.specs.Marks.{text_of}
-use Rattle.token_core.specs.Prints.{Print}
+use Rattle.syn_ty.proofs.ty_laws.words.Tokens.{DelimSpan, Delimiter, Ident, Punct, Joint, Word, is_keyword, AreListed, none_left, last_value, value_and_mark, Nowhere, text_of, Print, after_one, is_ident, is_text, second, sees_mark, sees_word, third, IsVisible, IsMark, is_mark, last_char, more_chars, Bytes, Toks, word, mark, group, TokenStream, ident, punct, row, toks}
+use Rattle.syn_ty.proofs.ty_laws.words.Paths.{Values, AsWritten, segment_of, path_by}
+use Rattle.syn_ty.proofs.ty_laws.words.Forms.{Plus, is_bare_word, is_named_word, longer, with_arguments}
+use Rattle.syn_ty.proofs.ty_laws.words.Types.{IsFor, a_binder, Sep, no_arguments, is_segment_word, IsSegment, a_word, a_word_with_arguments, IsPath, a_path, IsQualified, by_type, by_type_as_path, Manner, plainly, End, Parts, absent, present, BoundLifetimes, Path, PathArguments, PathSegment, QSelf, TypeTree}
 use Rattle.token_core.specs.Prints as p
-use Rattle.token_core.specs.Reads.{after_one, is_ident, is_text, second, sees_mark, sees_word, third}
-use Rattle.token_core.specs.Rebuilt.{IsVisible}
-use Rattle.token_core.specs.Spellings.{IsMark, is_mark, last_char, more_chars}
 use Rattle.token_core.specs.Tokens as token
-use Rattle.token_core.specs.Toks.{Bytes, Toks, word, mark, group}
-use Rattle.token_core.specs.Trees.{TokenStream, ident, punct, row, toks}
 use Rattle.token_core.proofs.MarkSpells.{mark_again, mark_seen}
 use Rattle.token_core.proofs.Rebuilds.{tree-ident, visible-tree}
 use Rattle.token_core.proofs.Rows.{row-append}
 use Rattle.token_core.proofs.Unseen.{no_mark-other}
 use Rattle.token_core.proofs.WordSpells.{word_seen}
-use Rattle.syn_path.specs.Values.{Values}
-use Rattle.syn_path.specs.declared.path.PathStyle.TheVariants.{AsWritten}
-use Rattle.syn_path.specs.path.Paths.{segment_of}
-use Rattle.syn_path.specs.path.Shapes.{segment_by, segments_by, path_by, qualified_by}
-use Rattle.syn_forms.specs.declared.places.TypePlace.TheVariants.{Plus}
-use Rattle.syn_forms.specs.paths.Reading.{is_bare_word, is_named_word, longer, with_arguments}
-use Rattle.syn_ty.specs.generics.Bounds.{IsFor}
+use Rattle.syn_path.specs.path.Shapes.{segment_by, segments_by, qualified_by}
 use Rattle.syn_ty.specs.generics.Parameters.{begins_as_generics}
-use Rattle.syn_ty.specs.generics.Spelling.{a_binder}
-use Rattle.syn_ty.specs.path.Paths.{Sep, no_arguments}
-use Rattle.syn_ty.specs.path.Spelling.{is_segment_word, IsSegment, a_word, a_word_with_arguments, IsPath, a_path, IsQualified, by_type, by_type_as_path}
-use Rattle.syn_ty.specs.ty.Parts.{Manner, plainly, End, Parts}
 use Rattle.syn_ty.specs.ty.Printing as printing
-use Rattle.syn_ty.specs.ty.Spelling.{absent, present}
-use Rattle.syn_ty.specs.ty.Trees.{BoundLifetimes, Path, PathArguments, PathSegment, QSelf, TypeTree}
 use Rattle.syn_ty.proofs.ty_laws.Prints.{arguments-None}
 use Rattle.syn_ty.proofs.ty_laws.reprint.Qualified.{one_more, longer_prints}
 

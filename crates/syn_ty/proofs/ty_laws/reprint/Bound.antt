@@ -1,35 +1,20 @@
 -- A trait bound, a bound in its place and bounds joined by `+` print their normal form clearly, where what they hold does.
 use Rattle.std.proofs.Common.{◌≡◌, Bool, true, false, List, [], ◌∷◌, ◌++◌, map, Option, None, Some, refl, sym, ◌∙◌, ap, subst}
-use Rattle.token_core.specs.declared.tree.Delimiter.TheVariants.{Parenthesis}
+use Rattle.syn_ty.proofs.ty_laws.words.Tokens.{Parenthesis, Many, Print, Visible, Toks, done, row, Paren, IsLifetime, IsMark}
+use Rattle.syn_ty.proofs.ty_laws.words.Paths.{NormalValues, Values}
+use Rattle.syn_ty.proofs.ty_laws.words.Forms.{BoundPlace, allows_const}
+use Rattle.syn_ty.proofs.ty_laws.words.Types.{TraitBoundModifiers, IsCapture, IsFor, AreModifiers, IsTrait, a_trait, a_trait_for, a_trait_asked, IsTraitBound, a_trait_bound, IsBound, a_lifetime_bound, a_bare_bound, a_bound_in_parens, a_capture_bound, AreBounds, no_bounds, last_plus, last_bound, bound_and_plus, binder_by, capture, trait_bound_of, IsBoundPath, as_written, Manner, plainly, clearly, End, going_on, Parts, BoundLifetimes, Path, TraitBound, TypeParamBound}
 use Rattle.token_core.specs.Groups as groups
-use Rattle.token_core.specs.Loops.{Many}
 use Rattle.token_core.specs.Prints as p
-use Rattle.token_core.specs.Prints.{Print}
-use Rattle.token_core.specs.Rebuilt.{Visible}
 use Rattle.token_core.specs.Tokens as token
-use Rattle.token_core.specs.Toks.{Toks, done}
-use Rattle.token_core.specs.Trees.{row}
 use Rattle.token_core.proofs.Rows.{row-append}
-use Rattle.syn_path.specs.Values.{NormalValues, Values}
 use Rattle.syn_path.proofs.Words.{AgainFront}
-use Rattle.token_core.specs.declared.token.Paren.{Paren}
 use Rattle.token_core.specs.Lifetimes as lifetimes
-use Rattle.token_core.specs.Spellings.{IsLifetime, IsMark}
-use Rattle.syn_forms.specs.declared.places.BoundPlace.{BoundPlace}
-use Rattle.syn_forms.specs.places.Reading.{allows_const}
-use Rattle.syn_ty.specs.declared.generics.TraitBoundModifiers.{TraitBoundModifiers}
 use Rattle.syn_ty.specs.declared.generics.TypeParamBoundOf.TheVariants as b
-use Rattle.syn_ty.specs.generics.Bounds.{IsCapture, IsFor, AreModifiers, IsTrait, a_trait, a_trait_for, a_trait_asked, IsTraitBound, a_trait_bound, IsBound, a_lifetime_bound, a_bare_bound, a_bound_in_parens, a_capture_bound, AreBounds, no_bounds, last_plus, last_bound, bound_and_plus}
-use Rattle.syn_ty.specs.generics.NormalShapes.{binder_by, capture}
-use Rattle.syn_ty.specs.generics.Params.{trait_bound_of}
 use Rattle.syn_ty.specs.generics.Shapes as shapes
 use Rattle.syn_ty.specs.generics.Shapes.{bare_trait_by, in_parens}
-use Rattle.syn_ty.specs.path.Signed.{IsBoundPath}
-use Rattle.syn_ty.specs.path.Shapes.{as_written}
 use Rattle.syn_ty.specs.ty.Normal as normal
-use Rattle.syn_ty.specs.ty.Parts.{Manner, plainly, clearly, End, going_on, Parts}
 use Rattle.syn_ty.specs.ty.Printing as printing
-use Rattle.syn_ty.specs.ty.Trees.{BoundLifetimes, Path, TraitBound, TypeParamBound}
 use Rattle.syn_ty.proofs.ty_laws.reprint.Within.{Again, SuppliedAgain}
 use Rattle.syn_ty.proofs.ty_laws.reprint.Angles.{Then, then_front, made_front}
 use Rattle.syn_ty.proofs.ty_laws.reprint.Capture.{capture_again}

@@ -1,26 +1,16 @@
 -- A capture prints its normal form clearly: its lifetimes first, with a comma that stands nowhere where the last one has none and others follow.
 use Rattle.std.proofs.Common.{◌≡◌, Bool, true, false, List, [], ◌∷◌, ◌++◌, map, refl, sym, ◌∙◌, ap, subst}
-use Rattle.token_core.specs.Listed.{AreListed, Anywhere}
-use Rattle.token_core.specs.Loops.{Many}
+use Rattle.syn_ty.proofs.ty_laws.words.Tokens.{AreListed, Anywhere, Many, Visible, IsMark, Toks, row}
+use Rattle.syn_ty.proofs.ty_laws.words.Types.{CapturedParam, PreciseCapture, IsCaptured, a_lifetime_captured, a_name_captured, IsCapture, a_capture, sort, sorted, capture, Comma}
 use Rattle.token_core.specs.Prints as p
-use Rattle.token_core.specs.Rebuilt.{Visible}
-use Rattle.token_core.specs.Spellings.{IsMark}
-use Rattle.token_core.specs.Toks.{Toks}
-use Rattle.token_core.specs.Trees.{row}
 use Rattle.token_core.proofs.Rebuilds.{tree-ident}
 use Rattle.token_core.proofs.Rows.{row-append}
 use Rattle.syn_path.proofs.Words.{AgainFront}
 use Rattle.syn_forms.proofs.tokens_laws.Mutability.{word_front}
-use Rattle.syn_ty.specs.declared.generics.CapturedParam.{CapturedParam}
 use Rattle.syn_ty.specs.declared.generics.CapturedParam.TheVariants as captured
-use Rattle.syn_ty.specs.declared.generics.PreciseCapture.{PreciseCapture}
-use Rattle.syn_ty.specs.generics.Bounds.{IsCaptured, a_lifetime_captured, a_name_captured, IsCapture, a_capture}
-use Rattle.syn_ty.specs.generics.Members.{sort, sorted}
-use Rattle.syn_ty.specs.generics.NormalShapes.{capture}
 use Rattle.syn_ty.specs.generics.Params.{capture_of}
 use Rattle.syn_ty.specs.generics.Shapes as shapes
 use Rattle.syn_ty.specs.generics.Shapes.{is_captured_lifetime}
-use Rattle.syn_ty.specs.ty.Types.{Comma}
 use Rattle.syn_ty.proofs.ty_laws.reprint.AnglesSorted.{normal_sorted, sorted_again}
 use Rattle.syn_ty.proofs.ty_laws.reprint.Leaves.{mark_front}
 use Rattle.syn_ty.proofs.ty_laws.reprint.Signatures.{lifetime_front}

@@ -1,24 +1,11 @@
 -- Bounds, parameters and generic arguments do not end in a mark that is glued to what follows, but perhaps in a `!`, where what stands within them does not: parameters and arguments where something follows.
 use Rattle.std.proofs.Common.{Bool, true, List, Option}
-use Rattle.token_core.specs.declared.tree.Ident.{Ident}
-use Rattle.token_core.specs.Spellings.{is_mark}
+use Rattle.syn_ty.proofs.ty_laws.words.Tokens.{Ident, is_mark, Toks}
+use Rattle.syn_ty.proofs.ty_laws.words.Paths.{Ended, Shut}
+use Rattle.syn_ty.proofs.ty_laws.words.Forms.{BoundPlace, ParamPlace}
+use Rattle.syn_ty.proofs.ty_laws.words.Types.{BoundConst, CapturedParam, LifetimeParamOf, PreciseCapture, TraitBoundModifiers, IsCaptured, a_lifetime_captured, a_name_captured, IsCapture, a_capture, IsConstness, no_constness, a_const, a_conditional_const, AreModifiers, some_modifiers, IsFor, IsTrait, a_trait, a_trait_for, a_trait_asked, IsTraitBound, a_trait_bound, IsBound, a_lifetime_bound, a_bare_bound, a_bound_in_parens, a_capture_bound, AreBounds, no_bounds, last_plus, last_bound, bound_and_plus, IsLifetimeParam, a_lone_lifetime, a_lifetime_with_bounds, AreBoundsAfter, no_colon, after_colon, IsAnyType, any_type, IsTypeParam, a_type_param, IsConstParam, a_const_param, IsParam, a_lifetime_param, a_named_param, a_constant_param, a_bare_param, ArgumentPlace, IsItemName, an_item, an_item_with_arguments, IsArgument, a_lifetime_argument, a_type_argument, a_const_argument, an_assoc_type, an_assoc_const, a_constraint, Manner, clearly, End, Parts, Relation, AngleBracketed, BoundLifetimes, ConstParam, GenericArgument, GenericParam, Path, TraitBound, TypeParam, TypeParamBound, TypeTree}
 use Rattle.token_core.specs.Tokens as token
-use Rattle.token_core.specs.Toks.{Toks}
-use Rattle.syn_path.specs.Ends.{Ended, Shut}
 use Rattle.syn_path.proofs.Ends.{chars_on, group_on, lifetime_over, listed_on, word_on, word_over}
-use Rattle.syn_forms.specs.declared.places.BoundPlace.{BoundPlace}
-use Rattle.syn_forms.specs.declared.places.ParamPlace.{ParamPlace}
-use Rattle.syn_ty.specs.declared.generics.BoundConst.{BoundConst}
-use Rattle.syn_ty.specs.declared.generics.CapturedParam.{CapturedParam}
-use Rattle.syn_ty.specs.declared.generics.LifetimeParamOf.{LifetimeParamOf}
-use Rattle.syn_ty.specs.declared.generics.PreciseCapture.{PreciseCapture}
-use Rattle.syn_ty.specs.declared.generics.TraitBoundModifiers.{TraitBoundModifiers}
-use Rattle.syn_ty.specs.generics.Bounds.{IsCaptured, a_lifetime_captured, a_name_captured, IsCapture, a_capture, IsConstness, no_constness, a_const, a_conditional_const, AreModifiers, some_modifiers, IsFor, IsTrait, a_trait, a_trait_for, a_trait_asked, IsTraitBound, a_trait_bound, IsBound, a_lifetime_bound, a_bare_bound, a_bound_in_parens, a_capture_bound, AreBounds, no_bounds, last_plus, last_bound, bound_and_plus}
-use Rattle.syn_ty.specs.generics.Parameters.{IsLifetimeParam, a_lone_lifetime, a_lifetime_with_bounds, AreBoundsAfter, no_colon, after_colon, IsAnyType, any_type, IsTypeParam, a_type_param, IsConstParam, a_const_param, IsParam, a_lifetime_param, a_named_param, a_constant_param, a_bare_param}
-use Rattle.syn_ty.specs.path.Arguments.{ArgumentPlace, IsItemName, an_item, an_item_with_arguments, IsArgument, a_lifetime_argument, a_type_argument, a_const_argument, an_assoc_type, an_assoc_const, a_constraint}
-use Rattle.syn_ty.specs.ty.Parts.{Manner, clearly, End, Parts}
-use Rattle.syn_ty.specs.ty.Spelling.{Relation}
-use Rattle.syn_ty.specs.ty.Trees.{AngleBracketed, BoundLifetimes, ConstParam, GenericArgument, GenericParam, Path, TraitBound, TypeParam, TypeParamBound, TypeTree}
 use Rattle.syn_ty.proofs.ty_laws.reprint.EndsParts.{Ending, binder_on, comma_on, given_on, gt_over, optional_on, plus_on, plus_over}
 use Rattle.syn_ty.proofs.ty_laws.reprint.EndsPaths.{bound_path_over}
 

@@ -1,21 +1,11 @@
 -- What stands within a form does not end in a mark that is glued to what follows, but perhaps in a `!`: what is known of it; marks, a part that may be there, a given value, a binder, `const` or `mut`.
 use Rattle.std.proofs.Common.{true, List, Option, refl}
-use Rattle.token_core.specs.Spellings.{IsMark, is_mark}
+use Rattle.syn_ty.proofs.ty_laws.words.Tokens.{IsMark, is_mark, Toks}
+use Rattle.syn_ty.proofs.ty_laws.words.Paths.{Ended, Shut}
+use Rattle.syn_ty.proofs.ty_laws.words.Forms.{BoundPlace, ParamPlace, TypePlace, PointerMutability, IsMutability, a_const, a_mut}
+use Rattle.syn_ty.proofs.ty_laws.words.Types.{IsGiven, given, IsBinder, a_binder, Sep, End, Parts, Relation, IsOptional, absent, present, BoundLifetimes, GenericArgument, GenericParam, PathArguments, TypeParamBound, TypeTree}
 use Rattle.token_core.specs.Tokens as token
-use Rattle.token_core.specs.Toks.{Toks}
-use Rattle.syn_path.specs.Ends.{Ended, Shut}
 use Rattle.syn_path.proofs.Ends.{char_over, chars_on, listed_on, word_over}
-use Rattle.syn_forms.specs.declared.places.BoundPlace.{BoundPlace}
-use Rattle.syn_forms.specs.declared.places.ParamPlace.{ParamPlace}
-use Rattle.syn_forms.specs.declared.places.TypePlace.{TypePlace}
-use Rattle.syn_forms.specs.declared.tokens.PointerMutability.{PointerMutability}
-use Rattle.syn_forms.specs.tokens.Spelling.{IsMutability, a_const, a_mut}
-use Rattle.syn_ty.specs.generics.Parameters.{IsGiven, given}
-use Rattle.syn_ty.specs.generics.Spelling.{IsBinder, a_binder}
-use Rattle.syn_ty.specs.path.Paths.{Sep}
-use Rattle.syn_ty.specs.ty.Parts.{End, Parts}
-use Rattle.syn_ty.specs.ty.Spelling.{Relation, IsOptional, absent, present}
-use Rattle.syn_ty.specs.ty.Trees.{BoundLifetimes, GenericArgument, GenericParam, PathArguments, TypeParamBound, TypeTree}
 
 -- Types, bounds and arguments in angle brackets end so whatever follows; the others where something does.
 pub record Ending {A E : Type 0} (p : Parts A E) : Type 0 where

@@ -1,16 +1,11 @@
 -- Paths and their arguments do not end in a mark that is glued to what follows, but perhaps in a `!`, where what stands within them does not.
 use Rattle.std.proofs.Common.{List, Option}
-use Rattle.token_core.specs.Spellings.{is_mark}
-use Rattle.token_core.specs.Toks.{Bytes, Toks}
-use Rattle.syn_path.specs.declared.path.PathStyle.{PathStyle}
-use Rattle.syn_path.specs.Ends.{Ended, Shut}
+use Rattle.syn_ty.proofs.ty_laws.words.Tokens.{is_mark, Bytes, Toks}
+use Rattle.syn_ty.proofs.ty_laws.words.Paths.{PathStyle, Ended, Shut}
+use Rattle.syn_ty.proofs.ty_laws.words.Forms.{TypePlace}
+use Rattle.syn_ty.proofs.ty_laws.words.Types.{Sep, IsReturn, no_output, an_output, IsParens, a_parens, IsDropped, nothing_dropped, a_sep_dropped, a_pair_dropped, IsSigned, a_signed, AreSigned, signed_last, signed_after, IsBoundPath, without_parens, with_parens, IsAngle, an_angle, IsArguments, IsSegment, a_word, a_word_with_arguments, AreSegments, IsPath, a_path, IsQualified, by_type, by_type_as_path, IsAnyPath, unqualified, qualified, Manner, clearly, End, Parts, AngleBracketed, Parenthesized, Path, PathArguments, PathSegment, QSelf, ReturnType}
 use Rattle.syn_path.proofs.Ends.{chars_on, group_on, listed_on, listed_over, word_on, word_over}
-use Rattle.syn_forms.specs.declared.places.TypePlace.{TypePlace}
-use Rattle.syn_ty.specs.path.Paths.{Sep}
-use Rattle.syn_ty.specs.path.Signed.{IsReturn, no_output, an_output, IsParens, a_parens, IsDropped, nothing_dropped, a_sep_dropped, a_pair_dropped, IsSigned, a_signed, AreSigned, signed_last, signed_after, IsBoundPath, without_parens, with_parens}
-use Rattle.syn_ty.specs.path.Spelling.{IsAngle, an_angle, IsArguments, some_arguments, IsSegment, a_word, a_word_with_arguments, AreSegments, IsPath, a_path, IsQualified, by_type, by_type_as_path, IsAnyPath, unqualified, qualified}
-use Rattle.syn_ty.specs.ty.Parts.{Manner, clearly, End, Parts}
-use Rattle.syn_ty.specs.ty.Trees.{AngleBracketed, Parenthesized, Path, PathArguments, PathSegment, QSelf, ReturnType}
+use Rattle.syn_ty.specs.path.Spelling.{some_arguments}
 use Rattle.syn_ty.proofs.ty_laws.reprint.EndsParts.{Ending, comma_on, gt_over, optional_on, sep_on}
 
 module _ {A E : Type 0} (part : Manner → Parts A E) (up : Ending (part clearly)) where

@@ -1,23 +1,11 @@
 -- Types do not end in a mark that is glued to what follows, but perhaps in a `!`, where what stands within them does not.
 use Rattle.std.proofs.Common.{true, List, Option, refl}
-use Rattle.token_core.specs.declared.tree.Delimiter.TheVariants.{Parenthesis}
-use Rattle.token_core.specs.Loops.{Many}
-use Rattle.token_core.specs.Spellings.{is_mark}
+use Rattle.syn_ty.proofs.ty_laws.words.Tokens.{Parenthesis, Many, is_mark, Toks, group}
+use Rattle.syn_ty.proofs.ty_laws.words.Paths.{Ended, Shut}
+use Rattle.syn_ty.proofs.ty_laws.words.Forms.{BoundPlace, TypePlace}
+use Rattle.syn_ty.proofs.ty_laws.words.Types.{Abi, TypeNeverOf, IsFor, IsPointer, a_pointer, IsBorrow, a_borrow, a_mutable_borrow, a_lifetime_borrow, IsEnclosed, enclosed, IsBracketed, bracketed, IsCounted, counted, IsTupled, no_element, some_elements, IsVerbatimType, an_unsafe_binder, a_dyn_star, a_builtin, IsType, a_path_type, a_macro, a_bound_macro, an_object_with_dyn, an_object_without_dyn, an_impl_type, a_fn_type, a_ptr_type, a_reference_type, a_paren_type, a_tuple_type, a_slice_type, an_array_type, an_infer_type, a_never_type, a_verbatim_type, IsAbi, an_abi, IsMutSelf, mut_self, mut_self_typed, named_mut_self, IsFnPtr, a_fn_ptr, IsBoundList, several_bounds, one_bound, AreObjectBounds, object_bounds, IsDyn, a_dyn, IsImpl, an_impl, IsFirst, a_first, a_first_for, AreFurther, none_further, some_further, AreBareBounds, path_alone, path_and_plus, held_and_plus, asked_first, asked_in_two, lifetime_first, Manner, clearly, End, Parts, IsNever, a_never, IsOptional, an_infer, BoundLifetimes, Path, TypeArray, TypeFnPtr, TypeImplTrait, TypeParamBound, TypeParen, TypePtr, TypeReference, TypeSlice, TypeTraitObject, TypeTree, TypeTuple}
 use Rattle.token_core.specs.Tokens as token
-use Rattle.token_core.specs.Toks.{Toks, group}
-use Rattle.syn_path.specs.Ends.{Ended, Shut}
 use Rattle.syn_path.proofs.Ends.{call_over, char_over, chars_on, group_on, lifetime_over, listed_on, str_over, word_on, word_over}
-use Rattle.syn_forms.specs.declared.places.BoundPlace.{BoundPlace}
-use Rattle.syn_forms.specs.declared.places.TypePlace.{TypePlace}
-use Rattle.syn_ty.specs.declared.ty.Abi.{Abi}
-use Rattle.syn_ty.specs.declared.ty.TypeNeverOf.{TypeNeverOf}
-use Rattle.syn_ty.specs.generics.Bounds.{IsFor}
-use Rattle.syn_ty.specs.ty.Admitted.{IsPointer, a_pointer, IsBorrow, a_borrow, a_mutable_borrow, a_lifetime_borrow, IsEnclosed, enclosed, IsBracketed, bracketed, IsCounted, counted, IsTupled, no_element, some_elements, IsVerbatimType, an_unsafe_binder, a_dyn_star, a_builtin, IsType, a_path_type, a_macro, a_bound_macro, an_object_with_dyn, an_object_without_dyn, an_impl_type, a_fn_type, a_ptr_type, a_reference_type, a_paren_type, a_tuple_type, a_slice_type, an_array_type, an_infer_type, a_never_type, a_verbatim_type}
-use Rattle.syn_ty.specs.ty.Functions.{IsAbi, an_abi, IsMutSelf, mut_self, mut_self_typed, named_mut_self, IsFnPtr, a_fn_ptr}
-use Rattle.syn_ty.specs.ty.Objects.{IsBoundList, several_bounds, one_bound, AreObjectBounds, object_bounds, IsDyn, a_dyn, IsImpl, an_impl, IsFirst, a_first, a_first_for, AreFurther, none_further, some_further, AreBareBounds, path_alone, path_and_plus, held_and_plus, asked_first, asked_in_two, lifetime_first}
-use Rattle.syn_ty.specs.ty.Parts.{Manner, clearly, End, Parts}
-use Rattle.syn_ty.specs.ty.Spelling.{IsNever, a_never, IsOptional, an_infer}
-use Rattle.syn_ty.specs.ty.Trees.{BoundLifetimes, Path, TypeArray, TypeFnPtr, TypeImplTrait, TypeParamBound, TypeParen, TypePtr, TypeReference, TypeSlice, TypeTraitObject, TypeTree, TypeTuple}
 use Rattle.syn_ty.proofs.ty_laws.reprint.EndsBounds.{bounds_shut, for_on}
 use Rattle.syn_ty.proofs.ty_laws.reprint.EndsParts.{Ending, comma_on, mutability_on, optional_on, plus_over}
 use Rattle.syn_ty.proofs.ty_laws.reprint.EndsPaths.{any_path_over, path_over, return_shut}

@@ -1,43 +1,21 @@
 -- A bound that begins with a lifetime prints one at its start, and the bounds of a trait object that do not begin with one print none at theirs.
 use Rattle.std.proofs.Common.{◌≡◌, Bool, true, false, List, [], ◌∷◌, ◌++◌, Option, None, Some, refl, sym, ◌∙◌, ap, subst}
-use Rattle.token_core.specs.declared.span.DelimSpan.{DelimSpan}
-use Rattle.token_core.specs.declared.tree.Delimiter.TheVariants.{Parenthesis}
+use Rattle.syn_ty.proofs.ty_laws.words.Tokens.{DelimSpan, Parenthesis, sees_lifetime, AreListed, none_left, last_value, value_and_mark, Nowhere, Many, Print, IsMark, is_mark, last_char, more_chars, is_word, Toks, done, group, row, stream_of_trees}
+use Rattle.syn_ty.proofs.ty_laws.words.Paths.{AsWritten, NormalValues, Values}
+use Rattle.syn_ty.proofs.ty_laws.words.Forms.{BoundPlace, TypePlace, allows_const}
+use Rattle.syn_ty.proofs.ty_laws.words.Types.{PreciseCapture, TraitBoundModifiers, IsCapture, a_capture, IsTrait, a_trait, a_trait_for, a_trait_asked, a_trait_bound, IsBound, a_lifetime_bound, a_bare_bound, a_bound_in_parens, a_capture_bound, no_modifiers, binder_by, a_binder, Sep, AreSigned, signed_last, signed_after, a_signed, IsBoundPath, without_parens, IsPath, a_path, IsSegment, a_word, a_word_with_arguments, IsFirst, a_first, a_first_for, AreBareBounds, path_alone, path_and_plus, held_and_plus, asked_first, asked_in_two, lifetime_first, Manner, plainly, clearly, End, Parts, IsOptional, absent, present, BoundLifetimes, Path, PathSegment, TypeParamBound}
 use Rattle.token_core.specs.Groups as groups
 use Rattle.token_core.specs.Lifetimes as lifetimes
-use Rattle.token_core.specs.Lifetimes.{sees_lifetime}
-use Rattle.token_core.specs.Listed.{AreListed, none_left, last_value, value_and_mark, Nowhere}
-use Rattle.token_core.specs.Loops.{Many}
 use Rattle.token_core.specs.Prints as p
-use Rattle.token_core.specs.Prints.{Print}
-use Rattle.token_core.specs.Spellings.{IsMark, is_mark, last_char, more_chars, is_word}
 use Rattle.token_core.specs.Tokens as token
-use Rattle.token_core.specs.Toks.{Toks, done, group}
-use Rattle.token_core.specs.Trees.{row, stream_of_trees}
 use Rattle.token_core.proofs.Rows.{row-append}
 use Rattle.token_core.proofs.WordSpells.{lifetime_again, lifetime_seen}
-use Rattle.syn_path.specs.declared.path.PathStyle.TheVariants.{AsWritten}
-use Rattle.syn_path.specs.Values.{NormalValues, Values}
 use Rattle.syn_path.proofs.Words.{row-group}
-use Rattle.syn_forms.specs.declared.places.BoundPlace.{BoundPlace}
-use Rattle.syn_forms.specs.declared.places.TypePlace.{TypePlace}
-use Rattle.syn_forms.specs.places.Reading.{allows_const}
-use Rattle.syn_ty.specs.declared.generics.PreciseCapture.{PreciseCapture}
-use Rattle.syn_ty.specs.declared.generics.TraitBoundModifiers.{TraitBoundModifiers}
 use Rattle.syn_ty.specs.declared.generics.TypeParamBoundOf.TheVariants as b
-use Rattle.syn_ty.specs.generics.Bounds.{IsCapture, a_capture, IsTrait, a_trait, a_trait_for, a_trait_asked, a_trait_bound, IsBound, a_lifetime_bound, a_bare_bound, a_bound_in_parens, a_capture_bound}
-use Rattle.syn_ty.specs.generics.Modifiers.{no_modifiers}
-use Rattle.syn_ty.specs.generics.NormalShapes.{binder_by}
-use Rattle.syn_ty.specs.generics.Spelling.{a_binder}
-use Rattle.syn_ty.specs.path.Paths.{Sep}
-use Rattle.syn_ty.specs.path.Signed.{AreSigned, signed_last, signed_after, a_signed, IsBoundPath, without_parens}
 use Rattle.syn_ty.specs.path.Signed as signed
-use Rattle.syn_ty.specs.path.Spelling.{IsPath, a_path, IsSegment, a_word, a_word_with_arguments}
 use Rattle.syn_ty.specs.ty.Normal as normal
-use Rattle.syn_ty.specs.ty.Objects.{IsFirst, a_first, a_first_for, AreBareBounds, path_alone, path_and_plus, held_and_plus, asked_first, asked_in_two, lifetime_first}
-use Rattle.syn_ty.specs.ty.Parts.{Manner, is_clear, plainly, clearly, End, Parts}
+use Rattle.syn_ty.specs.ty.Parts.{is_clear}
 use Rattle.syn_ty.specs.ty.Printing as printing
-use Rattle.syn_ty.specs.ty.Spelling.{IsOptional, absent, present}
-use Rattle.syn_ty.specs.ty.Trees.{BoundLifetimes, Path, PathSegment, TypeParamBound}
 use Rattle.syn_ty.proofs.ty_laws.reprint.Within.{Again}
 use Rattle.syn_ty.proofs.ty_laws.reprint.BareBounds.{first_again}
 use Rattle.syn_ty.proofs.ty_laws.reprint.Bound.{named_prints, print_named, with_parens}

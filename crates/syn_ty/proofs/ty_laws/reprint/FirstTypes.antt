@@ -1,39 +1,16 @@
 -- A type that does not begin with a lifetime prints none first: of its forms bounds without `dyn` alone may begin with one.
 use Rattle.std.proofs.Common.{◌≡◌, ℕ, Bool, true, false, List, [], Option, None, refl, ◌∙◌, ap}
-use Rattle.token_core.specs.declared.tree.Delimiter.TheVariants.{Parenthesis}
-use Rattle.token_core.specs.declared.tree.Ident.{Ident}
-use Rattle.token_core.specs.declared.word.Word.{Word}
-use Rattle.token_core.specs.Lifetimes.{sees_lifetime}
+use Rattle.syn_ty.proofs.ty_laws.words.Tokens.{Parenthesis, Ident, Word, sees_lifetime, Print, IsMark, is_mark, last_char, IsWord, is_word, Bytes, Toks, done, word, mark, group, punct, row, trees}
+use Rattle.syn_ty.proofs.ty_laws.words.Paths.{Macro, AsWritten, mac, IsCall, Sep, AreSegments, last_segment, more_segments, IsBarePath, a_bare_path, leading, no_leading, NormalValues, Values}
+use Rattle.syn_ty.proofs.ty_laws.words.Forms.{TypePlace, Plus}
+use Rattle.syn_ty.proofs.ty_laws.words.Types.{Abi, IsFor, a_binder, IsAnyPath, unqualified, qualified, by_type, by_type_as_path, NoLifetime, IsPointer, a_pointer, IsBorrow, a_borrow, a_mutable_borrow, a_lifetime_borrow, IsEnclosed, enclosed, IsBracketed, bracketed, IsCounted, counted, IsTupled, no_element, some_elements, IsVerbatimType, an_unsafe_binder, a_dyn_star, a_builtin, IsType, a_path_type, a_macro, a_bound_macro, an_object_with_dyn, an_object_without_dyn, an_impl_type, a_fn_type, a_ptr_type, a_reference_type, a_paren_type, a_tuple_type, a_slice_type, an_array_type, an_infer_type, a_never_type, a_verbatim_type, IsAbi, an_abi, IsFnPtr, a_fn_ptr, IsDyn, a_dyn, IsImpl, an_impl, Manner, plainly, clearly, End, Parts, IsOptional, absent, present, an_infer, a_never, BoundLifetimes, Path, QSelf, TypeArray, TypeFnPtr, TypeImplTrait, TypeParen, TypePtr, TypeReference, TypeSlice, TypeTraitObject, TypeTree, TypeTuple, macro_type_of, qualified_with, trait_object_with}
 use Rattle.token_core.specs.Prints as p
-use Rattle.token_core.specs.Prints.{Print}
-use Rattle.token_core.specs.Spellings.{IsMark, is_mark, last_char, IsWord, is_word}
-use Rattle.token_core.specs.Toks.{Bytes, Toks, done, word, mark, group}
-use Rattle.token_core.specs.Trees.{punct, row, trees}
-use Rattle.syn_path.specs.declared.mac.Macro.{Macro}
-use Rattle.syn_path.specs.declared.path.PathStyle.TheVariants.{AsWritten}
 use Rattle.syn_path.specs.mac.Macros.{Bang}
-use Rattle.syn_path.specs.mac.Printing.{mac}
-use Rattle.syn_path.specs.mac.Spelling.{IsCall, a_macro as a_call}
-use Rattle.syn_path.specs.path.Paths.{nothing, ModPath, ModSegment, Sep}
-use Rattle.syn_path.specs.path.Spelling.{AreSegments, last_segment, more_segments, IsBarePath, a_bare_path, leading, no_leading}
-use Rattle.syn_path.specs.Values.{NormalValues, Values}
-use Rattle.syn_forms.specs.declared.places.TypePlace.{TypePlace}
-use Rattle.syn_forms.specs.declared.places.TypePlace.TheVariants.{Plus}
+use Rattle.syn_path.specs.mac.Spelling.{a_macro as a_call}
+use Rattle.syn_path.specs.path.Paths.{nothing, ModPath, ModSegment}
 use Rattle.syn_forms.proofs.tokens_laws.Mutability.{word_front}
-use Rattle.syn_ty.specs.declared.ty.Abi.{Abi}
-use Rattle.syn_ty.specs.generics.Bounds.{IsFor}
-use Rattle.syn_ty.specs.generics.Spelling.{a_binder}
-use Rattle.syn_ty.specs.path.Spelling.{IsAnyPath, unqualified, qualified, by_type, by_type_as_path}
-use Rattle.syn_ty.specs.ty.Admitted.{NoLifetime, IsPointer, a_pointer, IsBorrow, a_borrow, a_mutable_borrow, a_lifetime_borrow, IsEnclosed, enclosed, IsBracketed, bracketed, IsCounted, counted, IsTupled, no_element, some_elements, IsVerbatimType, an_unsafe_binder, a_dyn_star, a_builtin, IsType}
-use Rattle.syn_ty.specs.ty.Admitted.{a_path_type, a_macro, a_bound_macro, an_object_with_dyn, an_object_without_dyn, an_impl_type, a_fn_type, a_ptr_type, a_reference_type, a_paren_type, a_tuple_type, a_slice_type, an_array_type, an_infer_type, a_never_type, a_verbatim_type}
-use Rattle.syn_ty.specs.ty.Functions.{IsAbi, an_abi, IsFnPtr, a_fn_ptr}
 use Rattle.syn_ty.specs.ty.Normal as normal
-use Rattle.syn_ty.specs.ty.Objects.{IsDyn, a_dyn, IsImpl, an_impl}
-use Rattle.syn_ty.specs.ty.Parts.{Manner, plainly, clearly, End, Parts}
 use Rattle.syn_ty.specs.ty.Printing as printing
-use Rattle.syn_ty.specs.ty.Spelling.{IsOptional, absent, present, an_infer, a_never}
-use Rattle.syn_ty.specs.ty.Trees.{BoundLifetimes, Path, QSelf, TypeArray, TypeFnPtr, TypeImplTrait, TypeParen, TypePtr, TypeReference, TypeSlice, TypeTraitObject, TypeTree, TypeTuple}
-use Rattle.syn_ty.specs.ty.Types.{macro_type_of, qualified_with, trait_object_with}
 use Rattle.syn_ty.proofs.ty_laws.reprint.Within.{Again, SuppliedAgain}
 use Rattle.syn_ty.proofs.ty_laws.reprint.FirstBounds.{bare_no_lifetime, path_no_lifetime}
 use Rattle.syn_ty.proofs.ty_laws.reprint.Forms.{NoneFirst, type_call_again, pointer_again, borrow_again, enclosed_again, bracketed_again, counted_again, tuple_again}

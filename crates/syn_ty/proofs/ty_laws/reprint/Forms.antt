@@ -1,44 +1,24 @@
 -- Pointers, borrows, types in parentheses and brackets, arrays, tuples and macro calls print their normal form clearly, where the types that they hold do.
 use Rattle.std.proofs.Common.{◌≡◌, Bool, true, false, List, [], ◌∷◌, ◌++◌, map, Option, Some, None, refl, sym, ◌∙◌, ap, subst, append-nil}
-use Rattle.token_core.specs.declared.lifetime.Lifetime.{Lifetime}
-use Rattle.token_core.specs.declared.span.DelimSpan.{DelimSpan}
-use Rattle.token_core.specs.declared.tree.Delimiter.TheVariants.{Parenthesis, Bracket}
+use Rattle.syn_ty.proofs.ty_laws.words.Tokens.{Lifetime, DelimSpan, Parenthesis, Bracket, sees_lifetime, AreListed, value_and_mark, Anywhere, Many, Print, is_text, sees_word, Visible, IsMark, IsWord, IsLifetime, Bytes, Toks, done, mark, group, punct, row, stream_of_trees, toks}
+use Rattle.syn_ty.proofs.ty_laws.words.Paths.{Macro, mac, IsCall, a_macro, Sep, no_leading, leading, AreSegments, last_segment, more_segments, IsBarePath, a_bare_path, NormalValues, Values}
+use Rattle.syn_ty.proofs.ty_laws.words.Forms.{TypePlace, Plus, NoPlus}
+use Rattle.syn_ty.proofs.ty_laws.words.Types.{IsPointer, a_pointer, IsBorrow, a_borrow, a_mutable_borrow, a_lifetime_borrow, IsEnclosed, enclosed, IsBracketed, bracketed, IsCounted, counted, IsElement, an_element, IsTupled, no_element, some_elements, IsTypeCall, NoLifetime, Manner, plainly, clearly, End, Parts, lone_comma, Relation, IsOptional, absent, present, TypeTree, TypeArray, TypeParen, TypePtr, TypeReference, TypeSlice, TypeTuple, And, Comma, Mut, array_of, paren_of, ptr_of, reference_of, slice_of, tuple_of}
 use Rattle.token_core.specs.Groups as groups
 use Rattle.token_core.specs.Lifetimes as lifetimes
-use Rattle.token_core.specs.Lifetimes.{sees_lifetime}
-use Rattle.token_core.specs.Listed.{AreListed, value_and_mark, Anywhere}
 use Rattle.token_core.specs.Lists as lists
-use Rattle.token_core.specs.Loops.{Many}
 use Rattle.token_core.specs.Prints as p
-use Rattle.token_core.specs.Prints.{Print}
-use Rattle.token_core.specs.Reads.{is_text, sees_word}
-use Rattle.token_core.specs.Rebuilt.{Visible}
-use Rattle.token_core.specs.Spellings.{IsMark, IsWord, IsLifetime}
 use Rattle.token_core.specs.Tokens as token
-use Rattle.token_core.specs.Toks.{Bytes, Toks, done, mark, group}
-use Rattle.token_core.specs.Trees.{punct, row, stream_of_trees, toks}
 use Rattle.token_core.proofs.Rows.{row-append}
-use Rattle.syn_path.specs.declared.mac.Macro.{Macro}
-use Rattle.syn_path.specs.mac.Printing.{mac}
-use Rattle.syn_path.specs.mac.Spelling.{IsCall, a_macro}
-use Rattle.syn_path.specs.path.Paths.{ModPath, ModSegment, Sep, nothing}
-use Rattle.syn_path.specs.path.Spelling.{no_leading, leading, AreSegments, last_segment, more_segments, IsBarePath, a_bare_path}
-use Rattle.syn_path.specs.Values.{NormalValues, Values}
+use Rattle.syn_path.specs.path.Paths.{ModPath, ModSegment, nothing}
 use Rattle.syn_path.proofs.mac_laws.Reprint.{macro_again, whole_macro, held_visible}
 use Rattle.syn_path.proofs.mac_laws.Sound.{visible_call}
 use Rattle.syn_path.proofs.Words.{AgainFront, row-group}
-use Rattle.syn_forms.specs.declared.places.TypePlace.{TypePlace}
-use Rattle.syn_forms.specs.declared.places.TypePlace.TheVariants.{Plus, NoPlus}
 use Rattle.syn_forms.specs.tokens.Printing.{pointer}
 use Rattle.syn_forms.proofs.tokens_laws.Mutability.{word_front, mutability_again}
-use Rattle.syn_ty.specs.ty.Admitted.{IsPointer, a_pointer, IsBorrow, a_borrow, a_mutable_borrow, a_lifetime_borrow, IsEnclosed, enclosed, IsBracketed, bracketed, IsCounted, counted, IsElement, an_element, IsTupled, no_element, some_elements, IsTypeCall, NoLifetime}
 use Rattle.syn_ty.specs.ty.Normal as normal
-use Rattle.syn_ty.specs.ty.Parts.{Manner, plainly, clearly, End, Parts}
 use Rattle.syn_ty.specs.ty.Printing as printing
-use Rattle.syn_ty.specs.ty.Printing.{lone_comma}
-use Rattle.syn_ty.specs.ty.Spelling.{Relation, IsOptional, absent, present}
-use Rattle.syn_ty.specs.ty.Trees.{TypeTree, TypeArray, TypeParen, TypePtr, TypeReference, TypeSlice, TypeTuple}
-use Rattle.syn_ty.specs.ty.Types.{And, Comma, Mut, array_of, array_with, paren_of, paren_with, ptr_of, ptr_with, reference_of, reference_with, slice_of, slice_with, tuple_of, tuple_with}
+use Rattle.syn_ty.specs.ty.Types.{array_with, paren_with, ptr_with, reference_with, slice_with, tuple_with}
 use Rattle.syn_ty.proofs.ty_laws.reprint.Within.{Again, SuppliedAgain}
 use Rattle.syn_ty.proofs.ty_laws.reprint.Leaves.{listed_front, mark_front}
 use Rattle.syn_ty.proofs.ty_laws.reprint.Signatures.{lifetime_front, normal_front, optional_front}

@@ -1,41 +1,26 @@
 -- An ABI, the arguments of a pointer to a function and the pointer itself print their normal form clearly, where the types, attributes and binders that they hold do.
 use Rattle.std.proofs.Common.{◌≡◌, Bool, true, false, List, [], ◌++◌, map, Option, Some, None, refl, sym, ◌∙◌, ap, subst, append_assoc, append-nil}
-use Rattle.token_core.specs.declared.token.Paren.{Paren}
-use Rattle.token_core.specs.declared.tree.Delimiter.TheVariants.{Parenthesis}
-use Rattle.token_core.specs.declared.tree.Ident.{Ident}
+use Rattle.syn_ty.proofs.ty_laws.words.Tokens.{Paren, Parenthesis, Ident, Anywhere, Many, Print, Visible, IsMark, IsWord, Toks, done, word, group, row, stream_of_trees, trees}
+use Rattle.syn_ty.proofs.ty_laws.words.Paths.{NormalValues, Values}
+use Rattle.syn_ty.proofs.ty_laws.words.Forms.{Plus, NoPlus}
+use Rattle.syn_ty.proofs.ty_laws.words.Types.{Abi, FnPtrVariadicOf, IsFor, many, binder_start, IsAbi, IsMutSelf, IsNamedArg, a_named_argument, a_verbatim_argument, IsVariadic, dots, named_dots, AreInputs, plain_inputs, variadic_inputs, IsFnPtr, a_fn_ptr, Manner, plainly, clearly, End, Parts, last_comma, IsOptional, absent, present, BoundLifetimes, NamedArg, ReturnType, TypeFnPtr, TypeTree, Comma, fn_ptr_with, named_arg_of}
 use Rattle.token_core.specs.Groups as groups
-use Rattle.token_core.specs.Listed.{Anywhere}
 use Rattle.token_core.specs.Lists as lists
-use Rattle.token_core.specs.Loops.{Many}
 use Rattle.token_core.specs.Prints as p
-use Rattle.token_core.specs.Prints.{Print}
-use Rattle.token_core.specs.Rebuilt.{Visible}
-use Rattle.token_core.specs.Spellings.{IsMark, IsWord}
 use Rattle.token_core.specs.Tokens as token
-use Rattle.token_core.specs.Toks.{Toks, done, word, group}
-use Rattle.token_core.specs.Trees.{row, stream_of_trees, trees}
 use Rattle.token_core.proofs.Rebuilds.{tree-ident}
 use Rattle.token_core.proofs.Rows.{row-append}
-use Rattle.syn_path.specs.Values.{NormalValues, Values}
 use Rattle.syn_path.proofs.Words.{Again, AgainFront, row-group}
-use Rattle.syn_forms.specs.declared.places.TypePlace.TheVariants.{Plus, NoPlus}
 use Rattle.syn_forms.proofs.tokens_laws.Mutability.{word_front}
-use Rattle.syn_ty.specs.declared.ty.Abi.{Abi}
-use Rattle.syn_ty.specs.declared.ty.FnPtrVariadicOf.{FnPtrVariadicOf}
 use Rattle.syn_ty.specs.declared.ty.TypeOf.TheVariants as v
-use Rattle.syn_ty.specs.generics.Bounds.{IsFor}
-use Rattle.syn_ty.specs.generics.NormalShapes.{many}
 use Rattle.syn_ty.specs.generics.NormalShapes as shapes
 use Rattle.syn_ty.specs.generics.Shapes as shown
-use Rattle.syn_ty.specs.generics.Shapes.{binder_start, binder_end, binder_joined}
-use Rattle.syn_ty.specs.ty.Functions.{IsAbi, IsMutSelf, IsNamedArg, an_argument, a_named_argument, a_verbatim_argument, IsVariadic, dots, named_dots, AreInputs, plain_inputs, variadic_inputs, IsFnPtr, a_fn_ptr}
+use Rattle.syn_ty.specs.generics.Shapes.{binder_end, binder_joined}
+use Rattle.syn_ty.specs.ty.Functions.{an_argument}
 use Rattle.syn_ty.specs.ty.Normal as normal
-use Rattle.syn_ty.specs.ty.Parts.{Manner, plainly, clearly, End, Parts}
 use Rattle.syn_ty.specs.ty.Printing as printing
-use Rattle.syn_ty.specs.ty.Printing.{comma_at, last_comma}
-use Rattle.syn_ty.specs.ty.Spelling.{IsOptional, absent, present}
-use Rattle.syn_ty.specs.ty.Trees.{BoundLifetimes, NamedArg, ReturnType, TypeFnPtr, TypeTree}
-use Rattle.syn_ty.specs.ty.Types.{Comma, fn_ptr_with, named_arg_of, variadic_of}
+use Rattle.syn_ty.specs.ty.Printing.{comma_at}
+use Rattle.syn_ty.specs.ty.Types.{variadic_of}
 use Rattle.syn_ty.proofs.ty_laws.reprint.Within.{Again as AllAgain, SuppliedAgain}
 use Rattle.syn_ty.proofs.ty_laws.reprint.EndsTypes.{mut_self_over}
 use Rattle.syn_ty.proofs.ty_laws.reprint.HeldForms.{held_before}

@@ -1,29 +1,18 @@
 -- What is held verbatim as a type begins as it did, whatever follows it.
 use Rattle.std.proofs.Common.{◌≡◌, true, false, List, [], ◌∷◌, Some, refl, sym, ◌∙◌, ap, subst}
 use Rattle.std.proofs.lemmas.Slice.Eq.{bytes_eq-Decides}
-use Rattle.token_core.specs.declared.span.DelimSpan.{DelimSpan}
-use Rattle.token_core.specs.declared.tree.Delimiter.{Delimiter}
+use Rattle.syn_ty.proofs.ty_laws.words.Tokens.{DelimSpan, Delimiter, Ident, TokenTree, is_keyword, text_of, builtin_text, is_text, sees_mark, sees_word, is_mark, last_char, is_word, Bytes, Toks, done, word, TokenStream, row, trees}
+use Rattle.syn_ty.proofs.ty_laws.words.Forms.{TypePlace}
+use Rattle.syn_ty.proofs.ty_laws.words.Types.{IsFor, a_binder, IsVerbatimType, an_unsafe_binder, a_dyn_star, a_builtin, Manner, clearly, End, Parts, Holds, absent, present}
 use Rattle.token_core.specs.declared.tree.Delimiter.TheVariants as d
 use Rattle.token_core.specs.declared.tree.Group.{Group, roll-out-Group}
-use Rattle.token_core.specs.declared.tree.Ident.{Ident}
 use Rattle.token_core.specs.declared.tree.TokenTree.TheOpen as o
 use Rattle.token_core.specs.declared.tree.TokenTree.TheVariants as t
-use Rattle.token_core.specs.declared.tree.TokenTree.{TokenTree, roll-TokenTree, out-TokenTree, roll-out-TokenTree}
-use Rattle.token_core.specs.Keywords.{is_keyword}
-use Rattle.token_core.specs.Marks.{text_of}
-use Rattle.token_core.specs.Reads.{builtin_text, is_text, sees_mark, sees_word}
-use Rattle.token_core.specs.Spellings.{is_mark, last_char, is_word}
+use Rattle.token_core.specs.declared.tree.TokenTree.{roll-TokenTree, out-TokenTree, roll-out-TokenTree}
 use Rattle.token_core.specs.Tokens as token
-use Rattle.token_core.specs.Toks.{Bytes, Toks, done, word}
-use Rattle.token_core.specs.Trees.{TokenStream, content_of, delimiter_of, group_of, row, span_of, trees}
+use Rattle.token_core.specs.Trees.{content_of, delimiter_of, group_of, span_of}
 use Rattle.token_core.specs.Trees as s
 use Rattle.token_core.proofs.Rebuilds.{tree-group, tree-ident, tree-literal, tree-punct}
-use Rattle.syn_forms.specs.declared.places.TypePlace.{TypePlace}
-use Rattle.syn_ty.specs.generics.Bounds.{IsFor}
-use Rattle.syn_ty.specs.generics.Spelling.{a_binder}
-use Rattle.syn_ty.specs.ty.Admitted.{IsVerbatimType, an_unsafe_binder, a_dyn_star, a_builtin}
-use Rattle.syn_ty.specs.ty.Parts.{Manner, clearly, End, Parts, Holds}
-use Rattle.syn_ty.specs.ty.Spelling.{absent, present}
 use Rattle.syn_ty.proofs.ty_laws.reprint.Begins.{Quiet, quiet_before, quiet_word, Kept, named, no_generics}
 
 -- ---- a tree that is an identifier before some tokens is it before others

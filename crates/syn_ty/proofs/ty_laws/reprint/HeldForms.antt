@@ -1,11 +1,11 @@
 -- What is held verbatim spells its form clearly before other tokens, where it does so by itself and ends in no glued `!`.
 use Rattle.std.proofs.Common.{refl, subst}
-use Rattle.token_core.specs.Trees.{TokenStream, row, trees}
-use Rattle.token_core.specs.Toks.{Toks, done}
-use Rattle.syn_path.specs.Ends.{Calm, Ended, Moved, NoBang, Shut}
+use Rattle.syn_ty.proofs.ty_laws.words.Tokens.{TokenStream, row, trees, Toks, done}
+use Rattle.syn_ty.proofs.ty_laws.words.Paths.{Calm, Ended, Moved, Shut}
+use Rattle.syn_ty.proofs.ty_laws.words.Types.{Manner, clearly}
+use Rattle.syn_path.specs.Ends.{NoBang}
 use Rattle.syn_path.proofs.Ends.{calm_of}
 use Rattle.syn_path.proofs.Moves.{row_before}
-use Rattle.syn_ty.specs.ty.Parts.{Manner, clearly}
 
 module _ (Form : Manner → Toks → Toks → Type 0) (moves : (k l r : Toks) → Form clearly l r → Calm l → Moved (Form clearly) k l r) (ends : (l r : Toks) → Form clearly l r → Shut r → Ended l) where
   -- before other tokens

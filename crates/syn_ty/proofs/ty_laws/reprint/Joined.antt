@@ -1,27 +1,16 @@
 -- What is made of forms that print clearly prints clearly: one after the other, what may be there, and lists after a colon.
 use Rattle.std.proofs.Common.{◌≡◌, Bool, true, false, List, [], ◌∷◌, ◌++◌, map, Option, Some, None, option_map, refl, sym, ◌∙◌, ap, subst}
-use Rattle.token_core.specs.declared.lifetime.Lifetime.{Lifetime}
-use Rattle.token_core.specs.declared.tree.Ident.{Ident}
+use Rattle.syn_ty.proofs.ty_laws.words.Tokens.{Lifetime, Ident, none_left, Anywhere, joined, Many, Print, Visible, IsMark, IsLifetime, Bytes, Toks, word, row}
+use Rattle.syn_ty.proofs.ty_laws.words.Types.{colon, many, AreLifetimes, Relation, IsOptional, absent, present}
 use Rattle.token_core.specs.Lifetimes as lifetimes
-use Rattle.token_core.specs.Listed.{none_left, Anywhere}
-use Rattle.token_core.specs.Lists.{joined}
-use Rattle.token_core.specs.Loops.{Many}
-use Rattle.token_core.specs.Prints.{Print}
 use Rattle.token_core.specs.Prints as p
-use Rattle.token_core.specs.Rebuilt.{Visible}
-use Rattle.token_core.specs.Spellings.{IsMark, IsLifetime}
 use Rattle.token_core.specs.Tokens as token
-use Rattle.token_core.specs.Toks.{Bytes, Toks, word}
-use Rattle.token_core.specs.Trees.{row}
 use Rattle.token_core.proofs.Rebuilds.{tree-ident}
 use Rattle.token_core.proofs.Rows.{row-append}
 use Rattle.token_core.proofs.WordSpells.{lifetime_again, lifetime_visible, lifetime_whole}
 use Rattle.syn_path.proofs.Words.{AgainFront}
-use Rattle.syn_ty.specs.generics.NormalShapes.{colon, many}
-use Rattle.syn_ty.specs.generics.Parameters.{AreLifetimes}
 use Rattle.syn_ty.specs.generics.Shapes.{lifetimes_joined}
 use Rattle.syn_ty.specs.generics.Shapes as shown
-use Rattle.syn_ty.specs.ty.Spelling.{Relation, IsOptional, absent, present}
 use Rattle.syn_ty.proofs.ty_laws.reprint.Leaves.{mark_front, listed_front}
 
 -- ---- forms made of others

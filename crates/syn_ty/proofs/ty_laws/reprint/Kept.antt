@@ -1,28 +1,15 @@
 -- At every height, the print of a type begins with `for` only where the type does, and as generics only where it does.
 use Rattle.std.proofs.Common.{◌≡◌, ℕ, zero, suc, Bool, true, false, List, ◌++◌, refl, ap, ◌∙◌, ◌⊎◌}
-use Rattle.token_core.specs.Prints.{Print}
+use Rattle.syn_ty.proofs.ty_laws.words.Tokens.{Print, sees_mark, IsMark, is_mark, last_char, Toks, row}
+use Rattle.syn_ty.proofs.ty_laws.words.Paths.{SpelledValues, Values, AsWritten}
+use Rattle.syn_ty.proofs.ty_laws.words.Forms.{Object, Plus, TypePlace}
+use Rattle.syn_ty.proofs.ty_laws.words.Types.{sorted, is_lifetime, IsAngle, an_angle, IsType, Manner, plainly, clearly, End, Parts, absent, present, spelt_to, turn, AngleBracketed, TypeTree}
 use Rattle.token_core.specs.Prints as p
-use Rattle.token_core.specs.Reads.{sees_mark}
-use Rattle.token_core.specs.Spellings.{IsMark, is_mark, last_char}
 use Rattle.token_core.specs.Tokens as token
-use Rattle.token_core.specs.Toks.{Toks}
-use Rattle.token_core.specs.Trees.{row}
 use Rattle.token_core.proofs.MarkSpells.{mark_again}
 use Rattle.token_core.proofs.Rows.{row-append}
-use Rattle.syn_path.specs.Values.{SpelledValues, Values}
-use Rattle.syn_path.specs.declared.path.PathStyle.TheVariants.{AsWritten}
-use Rattle.syn_forms.specs.declared.places.BoundPlace.TheVariants.{Object}
-use Rattle.syn_forms.specs.declared.places.TypePlace.TheVariants.{Plus}
-use Rattle.syn_forms.specs.declared.places.TypePlace.{TypePlace}
-use Rattle.syn_ty.specs.generics.Members.{sorted}
-use Rattle.syn_ty.specs.path.Paths.{is_lifetime}
-use Rattle.syn_ty.specs.path.Spelling.{IsAngle, an_angle, some_arguments}
-use Rattle.syn_ty.specs.ty.Admitted.{IsType}
-use Rattle.syn_ty.specs.ty.Parts.{Manner, plainly, clearly, End, Parts}
+use Rattle.syn_ty.specs.path.Spelling.{some_arguments}
 use Rattle.syn_ty.specs.ty.Printing as printing
-use Rattle.syn_ty.specs.ty.Spelling.{absent, present}
-use Rattle.syn_ty.specs.ty.Spelt.{spelt_to, turn}
-use Rattle.syn_ty.specs.ty.Trees.{AngleBracketed, TypeTree}
 use Rattle.syn_ty.proofs.ty_laws.reprint.Begins.{Kept, ArgumentsBegin, sep_no_gt}
 use Rattle.syn_ty.proofs.ty_laws.reprint.FirstBounds.{bound_lives}
 use Rattle.syn_ty.proofs.ty_laws.reprint.MovesKnot.{GivenMoves, moving_to}

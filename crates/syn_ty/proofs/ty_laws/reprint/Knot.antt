@@ -1,30 +1,14 @@
 -- The grammar tied: at every height of a tree, what spells a list plainly prints its normal form clearly, where attributes do, and expressions in their places.
 use Rattle.std.proofs.Common.{◌≡◌, ◌⊎◌, ℕ, zero, suc, Bool, true, false, List, []}
-use Rattle.token_core.specs.Lifetimes.{sees_lifetime}
-use Rattle.token_core.specs.Listed.{Anywhere}
-use Rattle.token_core.specs.Prints.{Print}
+use Rattle.syn_ty.proofs.ty_laws.words.Tokens.{sees_lifetime, Anywhere, Print, Toks, row}
+use Rattle.syn_ty.proofs.ty_laws.words.Paths.{AsWritten, NormalValues, SpelledValues, Values}
+use Rattle.syn_ty.proofs.ty_laws.words.Forms.{BoundPlace, Parameter, ParamPlace, TypePlace, Plus}
+use Rattle.syn_ty.proofs.ty_laws.words.Types.{IsBound, IsParam, ArgumentPlace, between_angles, ConstraintEnds, IsArgument, IsArguments, IsType, Manner, plainly, clearly, End, Parts, spelt_to, turn, GenericArgument, GenericParam, PathArguments, TypeParamBound, TypeTree}
 use Rattle.token_core.specs.Tokens as token
-use Rattle.token_core.specs.Toks.{Toks}
-use Rattle.token_core.specs.Trees.{row}
-use Rattle.syn_path.specs.declared.path.PathStyle.TheVariants.{AsWritten}
 use Rattle.syn_path.specs.Supplied.{Reprints}
-use Rattle.syn_path.specs.Values.{NormalValues, SpelledValues, Values}
 use Rattle.syn_path.proofs.Words.{AgainFront}
-use Rattle.syn_forms.specs.declared.places.BoundPlace.{BoundPlace}
-use Rattle.syn_forms.specs.declared.places.BoundPlace.TheVariants.{Parameter}
-use Rattle.syn_forms.specs.declared.places.ParamPlace.{ParamPlace}
-use Rattle.syn_forms.specs.declared.places.TypePlace.{TypePlace}
-use Rattle.syn_forms.specs.declared.places.TypePlace.TheVariants.{Plus}
-use Rattle.syn_ty.specs.generics.Bounds.{IsBound}
-use Rattle.syn_ty.specs.generics.Parameters.{IsParam}
-use Rattle.syn_ty.specs.path.Arguments.{ArgumentPlace, between_angles, ConstraintEnds, IsArgument}
-use Rattle.syn_ty.specs.path.Spelling.{IsArguments}
-use Rattle.syn_ty.specs.ty.Admitted.{IsType}
 use Rattle.syn_ty.specs.ty.Normal as normal
-use Rattle.syn_ty.specs.ty.Parts.{Manner, plainly, clearly, End, Parts}
 use Rattle.syn_ty.specs.ty.Printing as printing
-use Rattle.syn_ty.specs.ty.Spelt.{spelt_to, turn}
-use Rattle.syn_ty.specs.ty.Trees.{GenericArgument, GenericParam, PathArguments, TypeParamBound, TypeTree}
 use Rattle.syn_ty.proofs.ty_laws.reprint.Within.{Again, SuppliedAgain}
 use Rattle.syn_ty.proofs.ty_laws.reprint.Angles.{arguments_written_again}
 use Rattle.syn_ty.proofs.ty_laws.reprint.Arguments.{argument_again as argument_by}

@@ -1,22 +1,15 @@
 -- The modifiers of a trait bound print themselves clearly, and begin with no lifetime where what follows them begins with none.
 use Rattle.std.proofs.Common.{◌≡◌, Bool, false, Option, Some, refl}
-use Rattle.token_core.specs.declared.tree.Delimiter.TheVariants.{Bracket}
+use Rattle.syn_ty.proofs.ty_laws.words.Tokens.{Bracket, sees_lifetime, Print, IsWord, is_word, Toks, done}
+use Rattle.syn_ty.proofs.ty_laws.words.Types.{BoundConst, TraitBoundModifiers, IsConstness, no_constness, a_const, a_conditional_const, AreModifiers, some_modifiers, IsOptional, absent, present}
 use Rattle.token_core.specs.Groups as groups
-use Rattle.token_core.specs.Lifetimes.{sees_lifetime}
 use Rattle.token_core.specs.Prints as p
-use Rattle.token_core.specs.Prints.{Print}
-use Rattle.token_core.specs.Spellings.{IsWord, is_word}
 use Rattle.token_core.specs.Tokens as token
-use Rattle.token_core.specs.Toks.{Toks, done}
 use Rattle.syn_path.proofs.Words.{AgainFront}
 use Rattle.syn_forms.proofs.tokens_laws.Mutability.{word_front}
-use Rattle.syn_ty.specs.declared.generics.BoundConst.{BoundConst}
 use Rattle.syn_ty.specs.declared.generics.BoundConst.TheVariants as c
-use Rattle.syn_ty.specs.declared.generics.TraitBoundModifiers.{TraitBoundModifiers}
-use Rattle.syn_ty.specs.generics.Bounds.{IsConstness, no_constness, a_const, a_conditional_const, AreModifiers, some_modifiers}
 use Rattle.syn_ty.specs.generics.Modifiers.{modifiers_of}
 use Rattle.syn_ty.specs.generics.Shapes.{bound_const, modifiers}
-use Rattle.syn_ty.specs.ty.Spelling.{IsOptional, absent, present}
 use Rattle.syn_ty.proofs.ty_laws.reprint.Angles.{Then, then_front, made_front}
 use Rattle.syn_ty.proofs.ty_laws.reprint.Signatures.{optional_front}
 use Rattle.syn_ty.proofs.ty_laws.reprint.Steps.{within_front, grouped_front}

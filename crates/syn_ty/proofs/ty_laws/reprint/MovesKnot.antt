@@ -1,12 +1,9 @@
 -- The grammar tied: at every height, what is spelt clearly is so before other tokens too, and ends in no mark that is glued to what follows but perhaps in a `!`, where so it is of attributes, and of expressions in their places.
 use Rattle.std.proofs.Common.{ℕ, zero, suc, Bool, true, List}
-use Rattle.token_core.specs.Toks.{Toks}
-use Rattle.syn_path.specs.Ends.{Calm, Ended, Moved}
-use Rattle.syn_path.specs.Values.{SpelledValues}
-use Rattle.syn_forms.specs.declared.places.TypePlace.TheVariants.{Plus}
-use Rattle.syn_ty.specs.ty.Admitted.{IsType}
-use Rattle.syn_ty.specs.ty.Parts.{Manner, clearly, Parts}
-use Rattle.syn_ty.specs.ty.Spelt.{spelt_to, turn}
+use Rattle.syn_ty.proofs.ty_laws.words.Tokens.{Toks}
+use Rattle.syn_ty.proofs.ty_laws.words.Paths.{Calm, Ended, Moved, SpelledValues}
+use Rattle.syn_ty.proofs.ty_laws.words.Forms.{Plus}
+use Rattle.syn_ty.proofs.ty_laws.words.Types.{IsType, Manner, clearly, Parts, spelt_to, turn}
 use Rattle.syn_ty.proofs.ty_laws.reprint.EndsBounds.{argument_on, bound_over, param_on}
 use Rattle.syn_ty.proofs.ty_laws.reprint.EndsParts.{Ending}
 use Rattle.syn_ty.proofs.ty_laws.reprint.EndsPaths.{arguments_over}

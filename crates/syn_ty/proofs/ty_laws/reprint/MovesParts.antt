@@ -1,21 +1,11 @@
 -- What stands within a form is spelt clearly before other tokens too: what is known of it; a part that may be there, a given value, a binder, `const` or `mut`, and that something stands there.
 use Rattle.std.proofs.Common.{◌≡◌, true, false, List, Option, refl}
-use Rattle.token_core.specs.Lifetimes.{sees_lifetime}
-use Rattle.token_core.specs.Reads.{is_done, sees_mark}
+use Rattle.syn_ty.proofs.ty_laws.words.Tokens.{sees_lifetime, is_done, sees_mark, Toks, done, word, mark, lit, group, enter, leave}
+use Rattle.syn_ty.proofs.ty_laws.words.Paths.{Calm, Moved}
+use Rattle.syn_ty.proofs.ty_laws.words.Forms.{BoundPlace, ParamPlace, TypePlace, PointerMutability, IsMutability, a_const, a_mut}
+use Rattle.syn_ty.proofs.ty_laws.words.Types.{IsGiven, given, IsBinder, a_binder, End, Parts, Relation, IsOptional, absent, present, BoundLifetimes, GenericArgument, GenericParam, PathArguments, TypeParamBound, TypeTree}
 use Rattle.token_core.specs.Tokens as token
-use Rattle.token_core.specs.Toks.{Toks, done, word, mark, lit, group, enter, leave}
-use Rattle.syn_path.specs.Ends.{Calm, Moved}
 use Rattle.syn_path.proofs.Moves.{equals_moves, free_moves, listed_moves, lt_moves, word_moves}
-use Rattle.syn_forms.specs.declared.places.BoundPlace.{BoundPlace}
-use Rattle.syn_forms.specs.declared.places.ParamPlace.{ParamPlace}
-use Rattle.syn_forms.specs.declared.places.TypePlace.{TypePlace}
-use Rattle.syn_forms.specs.declared.tokens.PointerMutability.{PointerMutability}
-use Rattle.syn_forms.specs.tokens.Spelling.{IsMutability, a_const, a_mut}
-use Rattle.syn_ty.specs.generics.Parameters.{IsGiven, given}
-use Rattle.syn_ty.specs.generics.Spelling.{IsBinder, a_binder}
-use Rattle.syn_ty.specs.ty.Parts.{End, Parts}
-use Rattle.syn_ty.specs.ty.Spelling.{Relation, IsOptional, absent, present}
-use Rattle.syn_ty.specs.ty.Trees.{BoundLifetimes, GenericArgument, GenericParam, PathArguments, TypeParamBound, TypeTree}
 use Rattle.syn_ty.proofs.ty_laws.reprint.EndsParts.{Ending}
 
 -- ---- what is known of what a form holds

@@ -1,18 +1,13 @@
 -- Paths and their arguments are spelt clearly before other tokens too, where what stands within them is.
 use Rattle.std.proofs.Common.{true, List, Option, refl, ◌∙◌}
-use Rattle.token_core.specs.Spellings.{IsMark}
-use Rattle.token_core.specs.Toks.{Bytes, Toks}
-use Rattle.syn_path.specs.declared.path.PathStyle.{PathStyle}
-use Rattle.syn_path.specs.declared.path.PathStyle.TheVariants.{AsWritten, Expr}
-use Rattle.syn_path.specs.Ends.{before, Calm, Moved}
+use Rattle.syn_ty.proofs.ty_laws.words.Tokens.{IsMark, Bytes, Toks}
+use Rattle.syn_ty.proofs.ty_laws.words.Paths.{PathStyle, AsWritten, Expr, Calm, Moved}
+use Rattle.syn_ty.proofs.ty_laws.words.Forms.{TypePlace}
+use Rattle.syn_ty.proofs.ty_laws.words.Types.{Sep, IsReturn, no_output, an_output, IsParens, a_parens, IsDropped, nothing_dropped, a_sep_dropped, a_pair_dropped, IsSigned, a_signed, AreSigned, signed_last, signed_after, IsBoundPath, without_parens, with_parens, Styled, IsAngle, an_angle, IsArguments, IsSegment, a_word, a_word_with_arguments, AreSegments, IsPath, a_path, IsQualified, by_type, by_type_as_path, IsAnyPath, unqualified, qualified, IsNoTry, Manner, clearly, End, Parts, AngleBracketed, Parenthesized, Path, PathArguments, PathSegment, QSelf, ReturnType}
+use Rattle.syn_path.specs.Ends.{before}
 use Rattle.syn_path.proofs.Ends.{shut_of}
 use Rattle.syn_path.proofs.Moves.{steady, free_moves, listed_moves, lt_moves, word_moves, words_before}
-use Rattle.syn_forms.specs.declared.places.TypePlace.{TypePlace}
-use Rattle.syn_ty.specs.path.Paths.{Sep}
-use Rattle.syn_ty.specs.path.Signed.{IsReturn, no_output, an_output, IsParens, a_parens, IsDropped, nothing_dropped, a_sep_dropped, a_pair_dropped, IsSigned, a_signed, AreSigned, signed_last, signed_after, IsBoundPath, without_parens, with_parens}
-use Rattle.syn_ty.specs.path.Spelling.{Styled, IsAngle, an_angle, IsArguments, some_arguments, IsSegment, a_word, a_word_with_arguments, AreSegments, IsPath, a_path, IsQualified, by_type, by_type_as_path, IsAnyPath, unqualified, qualified, IsNoTry}
-use Rattle.syn_ty.specs.ty.Parts.{Manner, clearly, End, Parts}
-use Rattle.syn_ty.specs.ty.Trees.{AngleBracketed, Parenthesized, Path, PathArguments, PathSegment, QSelf, ReturnType}
+use Rattle.syn_ty.specs.path.Spelling.{some_arguments}
 use Rattle.syn_ty.proofs.ty_laws.reprint.EndsPaths.{any_path_over}
 use Rattle.syn_ty.proofs.ty_laws.reprint.MovesParts.{Moving, optional_moves, sep_there}
 

@@ -1,25 +1,13 @@
 -- Types are spelt clearly before other tokens too, where what stands within them is.
 use Rattle.std.proofs.Common.{true, List, Option, refl, ◌∙◌, ap}
-use Rattle.token_core.specs.Loops.{Many}
+use Rattle.syn_ty.proofs.ty_laws.words.Tokens.{Many, Toks, TokenStream, trees}
+use Rattle.syn_ty.proofs.ty_laws.words.Paths.{Macro, Calm, Moved}
+use Rattle.syn_ty.proofs.ty_laws.words.Forms.{BoundPlace, TypePlace}
+use Rattle.syn_ty.proofs.ty_laws.words.Types.{Abi, TypeInferOf, TypeNeverOf, IsFor, IsPointer, a_pointer, IsBorrow, a_borrow, a_mutable_borrow, a_lifetime_borrow, IsEnclosed, enclosed, IsBracketed, bracketed, IsCounted, counted, IsTupled, no_element, some_elements, IsVerbatimType, an_unsafe_binder, a_dyn_star, a_builtin, IsTypeCall, IsType, a_path_type, a_macro, a_bound_macro, an_object_with_dyn, an_object_without_dyn, an_impl_type, a_fn_type, a_ptr_type, a_reference_type, a_paren_type, a_tuple_type, a_slice_type, an_array_type, an_infer_type, a_never_type, a_verbatim_type, IsAbi, an_abi, IsMutSelf, mut_self, mut_self_typed, named_mut_self, IsFnPtr, a_fn_ptr, IsBoundList, several_bounds, one_bound, AreObjectBounds, object_bounds, IsDyn, a_dyn, IsImpl, an_impl, IsFirst, a_first, a_first_for, AreFurther, none_further, some_further, AreBareBounds, path_alone, path_and_plus, held_and_plus, asked_first, asked_in_two, lifetime_first, Manner, clearly, End, Holds, Parts, IsInfer, an_infer, IsNever, a_never, IsOptional, BoundLifetimes, Path, TypeArray, TypeFnPtr, TypeImplTrait, TypeParamBound, TypeParen, TypePtr, TypeReference, TypeSlice, TypeTraitObject, TypeTree, TypeTuple}
 use Rattle.token_core.specs.Tokens as token
-use Rattle.token_core.specs.Toks.{Toks}
-use Rattle.token_core.specs.Trees.{TokenStream, trees}
-use Rattle.syn_path.specs.declared.mac.Macro.{Macro}
-use Rattle.syn_path.specs.Ends.{before, Calm, Moved}
+use Rattle.syn_path.specs.Ends.{before}
 use Rattle.syn_path.proofs.Ends.{call_over, shut_of}
 use Rattle.syn_path.proofs.Moves.{steady, bang_moves, call_moves, colon_moves, free_moves, lifetime_moves, listed_moves, lt_moves, row_before, str_moves, word_moves, words_before}
-use Rattle.syn_forms.specs.declared.places.BoundPlace.{BoundPlace}
-use Rattle.syn_forms.specs.declared.places.TypePlace.{TypePlace}
-use Rattle.syn_ty.specs.declared.ty.Abi.{Abi}
-use Rattle.syn_ty.specs.declared.ty.TypeInferOf.{TypeInferOf}
-use Rattle.syn_ty.specs.declared.ty.TypeNeverOf.{TypeNeverOf}
-use Rattle.syn_ty.specs.generics.Bounds.{IsFor}
-use Rattle.syn_ty.specs.ty.Admitted.{IsPointer, a_pointer, IsBorrow, a_borrow, a_mutable_borrow, a_lifetime_borrow, IsEnclosed, enclosed, IsBracketed, bracketed, IsCounted, counted, IsTupled, no_element, some_elements, IsVerbatimType, an_unsafe_binder, a_dyn_star, a_builtin, IsTypeCall, IsType, a_path_type, a_macro, a_bound_macro, an_object_with_dyn, an_object_without_dyn, an_impl_type, a_fn_type, a_ptr_type, a_reference_type, a_paren_type, a_tuple_type, a_slice_type, an_array_type, an_infer_type, a_never_type, a_verbatim_type}
-use Rattle.syn_ty.specs.ty.Functions.{IsAbi, an_abi, IsMutSelf, mut_self, mut_self_typed, named_mut_self, IsFnPtr, a_fn_ptr}
-use Rattle.syn_ty.specs.ty.Objects.{IsBoundList, several_bounds, one_bound, AreObjectBounds, object_bounds, IsDyn, a_dyn, IsImpl, an_impl, IsFirst, a_first, a_first_for, AreFurther, none_further, some_further, AreBareBounds, path_alone, path_and_plus, held_and_plus, asked_first, asked_in_two, lifetime_first}
-use Rattle.syn_ty.specs.ty.Parts.{Manner, clearly, End, Holds, Parts}
-use Rattle.syn_ty.specs.ty.Spelling.{IsInfer, an_infer, IsNever, a_never, IsOptional}
-use Rattle.syn_ty.specs.ty.Trees.{BoundLifetimes, Path, TypeArray, TypeFnPtr, TypeImplTrait, TypeParamBound, TypeParen, TypePtr, TypeReference, TypeSlice, TypeTraitObject, TypeTree, TypeTuple}
 use Rattle.syn_ty.proofs.ty_laws.reprint.EndsPaths.{path_over}
 use Rattle.syn_ty.proofs.ty_laws.reprint.MovesBounds.{bounds_move, for_moves}
 use Rattle.syn_ty.proofs.ty_laws.reprint.MovesParts.{Moving, lifetime_there, mutability_moves, optional_moves}

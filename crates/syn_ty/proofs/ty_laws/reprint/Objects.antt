@@ -1,32 +1,20 @@
 -- The bounds of trait objects and of `impl`, with `dyn` or without, print their normal form clearly, where single bounds do.
 use Rattle.std.proofs.Common.{◌≡◌, Bool, true, ◌||◌, List, [], ◌∷◌, ◌++◌, map, None, Some, refl, sym, ◌∙◌, ap, subst}
 use Rattle.std.specs.List.{list_any}
-use Rattle.token_core.specs.Listed.{AfterMark}
-use Rattle.token_core.specs.Loops.{Many}
+use Rattle.syn_ty.proofs.ty_laws.words.Tokens.{AfterMark, Many, Print, Visible, Toks, row}
+use Rattle.syn_ty.proofs.ty_laws.words.Paths.{NormalValues, Values}
+use Rattle.syn_ty.proofs.ty_laws.words.Forms.{BoundPlace, Object, Opaque, TypePlace}
+use Rattle.syn_ty.proofs.ty_laws.words.Types.{roll-TypeParamBoundOf, IsBoundList, several_bounds, one_bound, AreObjectBounds, object_bounds, IsDyn, a_dyn, IsObject, an_object, IsImpl, an_impl, Manner, plainly, clearly, End, Parts, is_trait, trait_layer, absent, present, Layer, TypeImplTrait, TypeParamBound, TypeTraitObject, impl_trait_with, trait_object_with}
 use Rattle.token_core.specs.Prints as p
-use Rattle.token_core.specs.Prints.{Print}
-use Rattle.token_core.specs.Rebuilt.{Visible}
 use Rattle.token_core.specs.Tokens as token
-use Rattle.token_core.specs.Toks.{Toks}
-use Rattle.token_core.specs.Trees.{row}
 use Rattle.token_core.proofs.Rows.{row-append}
-use Rattle.syn_path.specs.Values.{NormalValues, Values}
 use Rattle.syn_path.proofs.Words.{AgainFront}
-use Rattle.syn_forms.specs.declared.places.BoundPlace.{BoundPlace}
-use Rattle.syn_forms.specs.declared.places.BoundPlace.TheVariants.{Object, Opaque}
-use Rattle.syn_forms.specs.declared.places.TypePlace.{TypePlace}
 use Rattle.syn_forms.proofs.tokens_laws.Mutability.{word_front}
 use Rattle.syn_ty.specs.declared.generics.GenericParamOf.TheOpen as o
-use Rattle.syn_ty.specs.declared.generics.TypeParamBoundOf.{out-TypeParamBoundOf, roll-TypeParamBoundOf, roll-out-TypeParamBoundOf}
+use Rattle.syn_ty.specs.declared.generics.TypeParamBoundOf.{out-TypeParamBoundOf, roll-out-TypeParamBoundOf}
 use Rattle.syn_ty.specs.declared.generics.TypeParamBoundOf.TheVariants as b
 use Rattle.syn_ty.specs.ty.Normal as normal
-use Rattle.syn_ty.specs.ty.Objects.{IsBoundList, several_bounds, one_bound, AreObjectBounds, object_bounds, IsDyn, a_dyn, IsObject, an_object, IsImpl, an_impl}
-use Rattle.syn_ty.specs.ty.Parts.{Manner, plainly, clearly, End, Parts}
 use Rattle.syn_ty.specs.ty.Printing as printing
-use Rattle.syn_ty.specs.ty.Reading.{is_trait, trait_layer}
-use Rattle.syn_ty.specs.ty.Spelling.{absent, present}
-use Rattle.syn_ty.specs.ty.Trees.{Layer, TypeImplTrait, TypeParamBound, TypeTraitObject}
-use Rattle.syn_ty.specs.ty.Types.{impl_trait_with, trait_object_with}
 use Rattle.syn_ty.proofs.ty_laws.reprint.Within.{Again}
 use Rattle.syn_ty.proofs.ty_laws.reprint.Bound.{bounds_again}
 use Rattle.syn_ty.proofs.ty_laws.reprint.Normals.{normal-Trait, normal-bound-Lifetime, normal-PreciseCapture, normal-bound-Verbatim}

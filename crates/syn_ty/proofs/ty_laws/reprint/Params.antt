@@ -1,40 +1,20 @@
 -- Parameters, each in its place, and binders print their normal forms clearly, where what stands within them does.
 use Rattle.std.proofs.Common.{◌≡◌, Bool, true, false, List, [], ◌++◌, Option, Some, None, option_map, refl, sym, ◌∙◌, ap, subst, append_assoc}
-use Rattle.token_core.specs.declared.lifetime.Lifetime.{Lifetime}
-use Rattle.token_core.specs.declared.tree.Ident.{Ident}
+use Rattle.syn_ty.proofs.ty_laws.words.Tokens.{Lifetime, Ident, AreListed, Anywhere, joined, Many, Print, is_ident, is_text, IsMark, IsWord, IsLifetime, Toks, word, row}
+use Rattle.syn_ty.proofs.ty_laws.words.Paths.{NormalValues, Values}
+use Rattle.syn_ty.proofs.ty_laws.words.Forms.{Parameter, ParamPlace, Plus}
+use Rattle.syn_ty.proofs.ty_laws.words.Types.{BoundLifetimesOf, LifetimeParamOf, AreBounds, no_bounds, IsFor, colon, many, IsGiven, given, IsLifetimeParam, a_lone_lifetime, a_lifetime_with_bounds, AreBoundsAfter, no_colon, after_colon, IsAnyType, any_type, IsTypeParam, a_type_param, IsConstParam, a_const_param, IsParam, a_lifetime_param, a_named_param, a_constant_param, a_bare_param, bound_lifetimes_of, const_param_of, lifetime_param_of, type_param_of, IsBinder, a_binder, Manner, plainly, clearly, End, Parts, Relation, IsOptional, absent, present, BoundLifetimes, ConstParam, GenericParam, TypeParam, TypeParamBound, TypeTree}
 use Rattle.token_core.specs.Lifetimes as lifetimes
-use Rattle.token_core.specs.Listed.{AreListed, Anywhere}
-use Rattle.token_core.specs.Lists.{joined}
-use Rattle.token_core.specs.Loops.{Many}
-use Rattle.token_core.specs.Prints.{Print}
 use Rattle.token_core.specs.Prints as p
-use Rattle.token_core.specs.Reads.{is_ident, is_text}
-use Rattle.token_core.specs.Spellings.{IsMark, IsWord, IsLifetime}
 use Rattle.token_core.specs.Tokens as token
-use Rattle.token_core.specs.Toks.{Toks, word}
-use Rattle.token_core.specs.Trees.{row}
-use Rattle.syn_path.specs.Values.{NormalValues, Values}
 use Rattle.syn_path.proofs.Words.{AgainFront}
-use Rattle.syn_forms.specs.declared.places.BoundPlace.TheVariants.{Parameter}
-use Rattle.syn_forms.specs.declared.places.ParamPlace.{ParamPlace}
 use Rattle.syn_forms.specs.declared.places.ParamPlace.TheVariants as params
-use Rattle.syn_forms.specs.declared.places.TypePlace.TheVariants.{Plus}
 use Rattle.syn_forms.proofs.tokens_laws.Mutability.{word_front}
-use Rattle.syn_ty.specs.declared.generics.BoundLifetimesOf.{BoundLifetimesOf}
 use Rattle.syn_ty.specs.declared.generics.GenericParamOf.TheVariants as g
-use Rattle.syn_ty.specs.declared.generics.LifetimeParamOf.{LifetimeParamOf}
-use Rattle.syn_ty.specs.generics.Bounds.{AreBounds, no_bounds, IsFor}
-use Rattle.syn_ty.specs.generics.NormalShapes.{colon, many}
 use Rattle.syn_ty.specs.generics.NormalShapes as shapes
-use Rattle.syn_ty.specs.generics.Parameters.{IsGiven, given, IsLifetimeParam, a_lone_lifetime, a_lifetime_with_bounds, AreBoundsAfter, no_colon, after_colon, IsAnyType, any_type, IsTypeParam, a_type_param, IsConstParam, a_const_param, IsParam, a_lifetime_param, a_named_param, a_constant_param, a_bare_param}
-use Rattle.syn_ty.specs.generics.Params.{bound_lifetimes_of, const_param_of, lifetime_param_of, type_param_of}
 use Rattle.syn_ty.specs.generics.Shapes as shown
-use Rattle.syn_ty.specs.generics.Spelling.{IsBinder, a_binder}
 use Rattle.syn_ty.specs.ty.Normal as normal
-use Rattle.syn_ty.specs.ty.Parts.{Manner, plainly, clearly, End, Parts}
 use Rattle.syn_ty.specs.ty.Printing as printing
-use Rattle.syn_ty.specs.ty.Spelling.{Relation, IsOptional, absent, present}
-use Rattle.syn_ty.specs.ty.Trees.{BoundLifetimes, ConstParam, GenericParam, TypeParam, TypeParamBound, TypeTree}
 use Rattle.syn_ty.proofs.ty_laws.reprint.Within.{Again, SuppliedAgain}
 use Rattle.syn_ty.proofs.ty_laws.reprint.Joined.{Then, then_front, made_front, optional_again, lifetime_front, IsNamed, named_front, IsAfter, none_after, some_after, after_front, LivesAfter, lives_after, lives_front}
 use Rattle.syn_ty.proofs.ty_laws.reprint.Normals.{normal-Lifetime, normal-Type, normal-Const, type_param_normal}

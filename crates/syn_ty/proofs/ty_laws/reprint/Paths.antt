@@ -1,34 +1,18 @@
 -- Segments and paths print clearly in their normal form in each style, where the arguments of a segment do; and what does not begin with `try` prints no `try` at its start.
 use Rattle.std.proofs.Common.{◌≡◌, ℕ, zero, suc, Bool, true, false, List, [], ◌++◌, Option, refl, sym, ◌∙◌, ap, subst}
-use Rattle.token_core.specs.declared.tree.Ident.{Ident}
-use Rattle.token_core.specs.Listed.{AreListed, none_left, last_value, value_and_mark, Nowhere}
-use Rattle.token_core.specs.Loops.{Many}
+use Rattle.syn_ty.proofs.ty_laws.words.Tokens.{Ident, AreListed, none_left, last_value, value_and_mark, Nowhere, Many, Print, sees_word, IsMark, is_mark, last_char, more_chars, Toks, row}
+use Rattle.syn_ty.proofs.ty_laws.words.Paths.{PathStyle, AsWritten, segment_of, path_of, NormalValues, SpelledValues, Values}
+use Rattle.syn_ty.proofs.ty_laws.words.Forms.{is_named_word, with_arguments}
+use Rattle.syn_ty.proofs.ty_laws.words.Types.{many, Sep, no_arguments, is_segment_word, Styled, IsSegment, a_word, a_word_with_arguments, AreSegments, IsPath, a_path, Manner, plainly, clearly, Parts, absent, present, turn, spelt_to, Path, PathArguments, PathSegment}
 use Rattle.token_core.specs.Prints as p
-use Rattle.token_core.specs.Prints.{Print}
-use Rattle.token_core.specs.Reads.{sees_word}
-use Rattle.token_core.specs.Spellings.{IsMark, is_mark, last_char, more_chars}
 use Rattle.token_core.specs.Tokens as token
-use Rattle.token_core.specs.Toks.{Toks}
-use Rattle.token_core.specs.Trees.{row}
 use Rattle.token_core.proofs.MarkSpells.{mark_again}
 use Rattle.token_core.proofs.Rebuilds.{tree-ident}
 use Rattle.token_core.proofs.Rows.{row-append}
-use Rattle.syn_path.specs.declared.path.PathStyle.{PathStyle}
-use Rattle.syn_path.specs.declared.path.PathStyle.TheVariants.{AsWritten}
-use Rattle.syn_path.specs.path.Paths.{segment_of, path_of}
-use Rattle.syn_path.specs.Values.{NormalValues, SpelledValues, Values}
 use Rattle.syn_path.proofs.Words.{AgainFront}
-use Rattle.syn_forms.specs.paths.Reading.{is_named_word, with_arguments}
-use Rattle.syn_ty.specs.generics.NormalShapes.{many}
-use Rattle.syn_ty.specs.path.Paths.{Sep, no_arguments}
 use Rattle.syn_ty.specs.path.Printing as paths
-use Rattle.syn_ty.specs.path.Spelling.{is_segment_word, Styled, IsSegment, a_word, a_word_with_arguments, AreSegments, IsPath, a_path}
 use Rattle.syn_ty.specs.ty.Normal as normal
-use Rattle.syn_ty.specs.ty.Parts.{Manner, plainly, clearly, Parts}
 use Rattle.syn_ty.specs.ty.Printing as printing
-use Rattle.syn_ty.specs.ty.Spelling.{absent, present}
-use Rattle.syn_ty.specs.ty.Spelt.{turn, spelt_to}
-use Rattle.syn_ty.specs.ty.Trees.{Path, PathArguments, PathSegment}
 use Rattle.syn_ty.proofs.ty_laws.reprint.Within.{Again}
 use Rattle.syn_ty.proofs.ty_laws.reprint.Angles.{Then, then_front, made_front, IsIdent, ident_front, optional_front, arguments_again}
 use Rattle.syn_ty.proofs.ty_laws.reprint.Normals.{normal-None}

@@ -2,38 +2,24 @@
 use Rattle.std.proofs.Common.{◌≡◌, zero, suc, min, length, Bool, true, false, List, [], ◌∷◌, ◌++◌, map, Option, Some, None, refl, sym, ◌∙◌, ap, arith, append_assoc, append-nil}
 use Rattle.std.proofs.lemmas.List.{length-append, length-map, map-append}
 use Rattle.std.proofs.Math.Nat.{min-eq_left, zero-min}
-use Rattle.token_core.specs.Listed.{AreListed, none_left, last_value, value_and_mark, Nowhere}
-use Rattle.token_core.specs.Loops.{Many}
+use Rattle.syn_ty.proofs.ty_laws.words.Tokens.{AreListed, none_left, last_value, value_and_mark, Nowhere, Many, Print, IsMark, Toks, row}
+use Rattle.syn_ty.proofs.ty_laws.words.Paths.{PathOf, PathSegmentOf, PathStyle, AsWritten, path_by, NormalValues, SpelledValues, Values}
+use Rattle.syn_ty.proofs.ty_laws.words.Forms.{longer, Plus}
+use Rattle.syn_ty.proofs.ty_laws.words.Types.{Sep, many, IsSegment, IsPath, a_path, IsQualified, by_type, by_type_as_path, IsAnyPath, unqualified, qualified, IsNoTry, Manner, plainly, clearly, Parts, Path, PathSegment, QSelf, TypePath, TypeTree, IsPathAlone, a_path_alone, qualified_with}
 use Rattle.token_core.specs.Prints as p
-use Rattle.token_core.specs.Prints.{Print}
-use Rattle.token_core.specs.Spellings.{IsMark}
-use Rattle.token_core.specs.Toks.{Toks}
 use Rattle.token_core.specs.Tokens as token
-use Rattle.token_core.specs.Trees.{row}
 use Rattle.token_core.proofs.MarkSpells.{mark_again}
 use Rattle.token_core.proofs.Rows.{row-append}
-use Rattle.syn_path.specs.declared.path.PathOf.{PathOf}
-use Rattle.syn_path.specs.declared.path.PathSegmentOf.{PathSegmentOf}
-use Rattle.syn_path.specs.declared.path.PathStyle.{PathStyle}
-use Rattle.syn_path.specs.declared.path.PathStyle.TheVariants.{AsWritten}
 use Rattle.syn_path.specs.declared.path.QSelfOf.{QSelfOf}
-use Rattle.syn_path.specs.path.Shapes.{segment_by, segments_by, path_by, around_by, qualified_at, qualified_by, as_or_default, colon}
+use Rattle.syn_path.specs.path.Shapes.{segment_by, segments_by, around_by, qualified_at, qualified_by, as_or_default, colon}
 use Rattle.syn_path.proofs.path_laws.Around.{by_some}
-use Rattle.syn_forms.specs.paths.Reading.{longer}
-use Rattle.syn_ty.specs.path.Paths.{Sep, path_of}
-use Rattle.syn_path.specs.Values.{NormalValues, SpelledValues, Values}
+use Rattle.syn_ty.specs.path.Paths.{path_of}
 use Rattle.syn_path.proofs.Words.{AgainFront}
-use Rattle.syn_forms.specs.declared.places.TypePlace.TheVariants.{Plus}
 use Rattle.syn_forms.proofs.tokens_laws.Mutability.{word_front}
-use Rattle.syn_ty.specs.generics.NormalShapes.{many}
 use Rattle.syn_ty.specs.path.Printing as paths
-use Rattle.syn_ty.specs.path.Spelling.{IsSegment, IsPath, a_path, IsQualified, by_type, by_type_as_path, IsAnyPath, unqualified, qualified, IsNoTry}
 use Rattle.syn_ty.specs.ty.Normal as normal
-use Rattle.syn_ty.specs.ty.Parts.{Manner, plainly, clearly, Parts}
 use Rattle.syn_ty.specs.ty.Printing as printing
-use Rattle.syn_ty.specs.ty.Trees.{Path, PathSegment, QSelf, TypePath, TypeTree}
-use Rattle.syn_ty.specs.ty.Spelt.{IsPathAlone, a_path_alone}
-use Rattle.syn_ty.specs.ty.Types.{qself_of, qualified_with}
+use Rattle.syn_ty.specs.ty.Types.{qself_of}
 use Rattle.syn_ty.proofs.ty_laws.reprint.Within.{Again, SuppliedAgain}
 use Rattle.syn_ty.proofs.ty_laws.reprint.Angles.{then_front, made_at, made_front}
 use Rattle.syn_ty.proofs.ty_laws.reprint.Normals.{path_type_normal}

@@ -1,40 +1,22 @@
 -- What a function returns, arguments in parentheses, ABIs and values that each have their mark print their normal form clearly, where what they hold does.
 use Rattle.std.proofs.Common.{◌≡◌, Bool, true, false, List, [], ◌∷◌, ◌++◌, map, Option, None, refl, sym, ◌∙◌, ap, subst}
-use Rattle.token_core.specs.declared.lifetime.Lifetime.{Lifetime}
-use Rattle.token_core.specs.declared.lit.LitStr.{LitStr}
-use Rattle.token_core.specs.declared.tree.Delimiter.TheVariants.{Parenthesis}
+use Rattle.syn_ty.proofs.ty_laws.words.Tokens.{Lifetime, LitStr, Parenthesis, Anywhere, Many, Print, Visible, IsMark, IsLifetime, IsStr, Toks, done, row, stream_of_trees}
+use Rattle.syn_ty.proofs.ty_laws.words.Paths.{NormalValues, Values}
+use Rattle.syn_ty.proofs.ty_laws.words.Forms.{TypePlace, Plus, NoPlus}
+use Rattle.syn_ty.proofs.ty_laws.words.Types.{Abi, parens_of, IsReturn, no_output, an_output, IsInput, an_input, IsParens, a_parens, IsAbi, an_abi, Manner, plainly, clearly, End, Parts, AreMarked, no_further, one_further, last_comma, Relation, IsOptional, absent, present, NamedArg, Parenthesized, ReturnType, TypeTree, Comma, named_arg_of}
 use Rattle.token_core.specs.Groups as groups
 use Rattle.token_core.specs.Lifetimes as lifetimes
-use Rattle.token_core.specs.Listed.{Anywhere}
 use Rattle.token_core.specs.Lists as lists
 use Rattle.token_core.specs.Lits as lits
-use Rattle.token_core.specs.Loops.{Many}
 use Rattle.token_core.specs.Prints as p
-use Rattle.token_core.specs.Prints.{Print}
-use Rattle.token_core.specs.Rebuilt.{Visible}
-use Rattle.token_core.specs.Spellings.{IsMark, IsLifetime, IsStr}
-use Rattle.token_core.specs.Toks.{Toks, done}
-use Rattle.token_core.specs.Trees.{row, stream_of_trees}
 use Rattle.token_core.proofs.LitSpells.{str_again, str_visible, str_whole}
 use Rattle.token_core.proofs.Rows.{row-append}
 use Rattle.token_core.proofs.WordSpells.{lifetime_again, lifetime_visible, lifetime_whole}
-use Rattle.syn_path.specs.Values.{NormalValues, Values}
 use Rattle.syn_path.proofs.Words.{AgainFront, row-group}
-use Rattle.syn_forms.specs.declared.places.TypePlace.{TypePlace}
-use Rattle.syn_forms.specs.declared.places.TypePlace.TheVariants.{Plus, NoPlus}
 use Rattle.syn_forms.proofs.tokens_laws.Mutability.{word_front}
-use Rattle.syn_ty.specs.declared.ty.Abi.{Abi}
 use Rattle.syn_ty.specs.declared.ty.ReturnTypeOf.TheVariants as output
-use Rattle.syn_ty.specs.path.Paths.{parens_of}
-use Rattle.syn_ty.specs.path.Signed.{IsReturn, no_output, an_output, IsInput, an_input, IsParens, a_parens}
-use Rattle.syn_ty.specs.ty.Functions.{IsAbi, an_abi}
 use Rattle.syn_ty.specs.ty.Normal as normal
-use Rattle.syn_ty.specs.ty.Parts.{Manner, plainly, clearly, End, Parts, AreMarked, no_further, one_further}
 use Rattle.syn_ty.specs.ty.Printing as printing
-use Rattle.syn_ty.specs.ty.Printing.{last_comma}
-use Rattle.syn_ty.specs.ty.Spelling.{Relation, IsOptional, absent, present}
-use Rattle.syn_ty.specs.ty.Trees.{NamedArg, Parenthesized, ReturnType, TypeTree}
-use Rattle.syn_ty.specs.ty.Types.{Comma, named_arg_of}
 use Rattle.syn_ty.proofs.ty_laws.reprint.Within.{Again, SuppliedAgain}
 use Rattle.syn_ty.proofs.ty_laws.reprint.Leaves.{listed_front, mark_front}
 

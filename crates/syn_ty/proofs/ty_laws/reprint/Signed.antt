@@ -1,36 +1,20 @@
 -- The path of a bound prints its normal form clearly, where what it holds does: what stood between the last word and its parentheses is not printed.
 use Rattle.std.proofs.Common.{◌≡◌, false, true, List, [], ◌∷◌, ◌++◌, map, Option, refl, sym, ◌∙◌, ap, subst}
-use Rattle.token_core.specs.declared.tree.Ident.{Ident}
-use Rattle.token_core.specs.Listed.{none_left, last_value, value_and_mark}
-use Rattle.token_core.specs.Loops.{Many}
+use Rattle.syn_ty.proofs.ty_laws.words.Tokens.{Ident, none_left, last_value, value_and_mark, Many, Print, sees_mark, sees_word, Visible, IsMark, is_mark, more_chars, Bytes, Toks, word, row}
+use Rattle.syn_ty.proofs.ty_laws.words.Paths.{AsWritten, path_of, NormalValues, Values}
+use Rattle.syn_ty.proofs.ty_laws.words.Forms.{with_arguments}
+use Rattle.syn_ty.proofs.ty_laws.words.Types.{many, Sep, IsDropped, nothing_dropped, a_sep_dropped, a_pair_dropped, IsSigned, a_signed, AreSigned, signed_last, signed_after, IsBoundPath, without_parens, with_parens, IsPath, a_path, AreSegments, IsSegment, a_word, a_word_with_arguments, Manner, plainly, clearly, End, Parts, IsOptional, absent, present, Parenthesized, Path, PathSegment}
 use Rattle.token_core.specs.Prints as p
-use Rattle.token_core.specs.Prints.{Print}
-use Rattle.token_core.specs.Reads.{sees_mark, sees_word}
-use Rattle.token_core.specs.Rebuilt.{Visible}
-use Rattle.token_core.specs.Spellings.{IsMark, is_mark, more_chars}
 use Rattle.token_core.specs.Tokens as token
-use Rattle.token_core.specs.Toks.{Bytes, Toks, word}
-use Rattle.token_core.specs.Trees.{row}
 use Rattle.token_core.proofs.MarkSpells.{mark_again, mark_seen, mark_visible}
 use Rattle.token_core.proofs.Rebuilds.{tree-ident}
 use Rattle.token_core.proofs.Rows.{row-append}
-use Rattle.syn_path.specs.declared.path.PathStyle.TheVariants.{AsWritten}
-use Rattle.syn_path.specs.path.Paths.{path_of}
-use Rattle.syn_path.specs.Values.{NormalValues, Values}
 use Rattle.syn_path.proofs.Words.{AgainFront}
-use Rattle.syn_forms.specs.paths.Reading.{with_arguments}
 use Rattle.syn_ty.specs.declared.path.PathArgumentsOf.TheVariants as a
-use Rattle.syn_ty.specs.generics.NormalShapes.{many}
-use Rattle.syn_ty.specs.path.Paths.{Sep}
 use Rattle.syn_ty.specs.path.Printing.{segment, segments, path}
 use Rattle.syn_ty.specs.path.Shapes.{colon}
-use Rattle.syn_ty.specs.path.Signed.{IsDropped, nothing_dropped, a_sep_dropped, a_pair_dropped, IsSigned, a_signed, AreSigned, signed_last, signed_after, IsBoundPath, without_parens, with_parens}
-use Rattle.syn_ty.specs.path.Spelling.{IsPath, a_path, AreSegments, IsSegment, a_word, a_word_with_arguments}
 use Rattle.syn_ty.specs.ty.Normal as normal
-use Rattle.syn_ty.specs.ty.Parts.{Manner, plainly, clearly, End, Parts}
 use Rattle.syn_ty.specs.ty.Printing as printing
-use Rattle.syn_ty.specs.ty.Spelling.{IsOptional, absent, present}
-use Rattle.syn_ty.specs.ty.Trees.{Parenthesized, Path, PathSegment}
 use Rattle.syn_ty.proofs.ty_laws.reprint.Within.{Again, SuppliedAgain}
 use Rattle.syn_ty.proofs.ty_laws.reprint.Normals.{normal-Parenthesized}
 use Rattle.syn_ty.proofs.ty_laws.reprint.Paths.{path_written_again, segment_written_again}

@@ -1,18 +1,14 @@
 -- Where what a tree holds prints its normal form clearly, so does the tree, also in a group; and trees that are held are as visible before other tokens.
 use Rattle.std.proofs.Common.{◌≡◌, List, [], ◌∷◌, sym, ◌∙◌, ap, subst}
-use Rattle.token_core.specs.declared.span.DelimSpan.{DelimSpan}
-use Rattle.token_core.specs.declared.tree.Delimiter.{Delimiter}
+use Rattle.syn_ty.proofs.ty_laws.words.Tokens.{DelimSpan, Delimiter, TokenTree, Print, Visible, IsVisible, Toks, done, group, TokenStream, row, trees, stream_of_trees}
 use Rattle.token_core.specs.declared.tree.Delimiter.TheVariants as d
 use Rattle.token_core.specs.declared.tree.Group.{Group, roll-out-Group}
-use Rattle.token_core.specs.declared.tree.TokenTree.{TokenTree, out-TokenTree, roll-out-TokenTree, roll-TokenTree}
+use Rattle.token_core.specs.declared.tree.TokenTree.{out-TokenTree, roll-out-TokenTree, roll-TokenTree}
 use Rattle.token_core.specs.declared.tree.TokenTree.TheOpen as o
 use Rattle.token_core.specs.declared.tree.TokenTree.TheVariants as t
 use Rattle.token_core.specs.Prints as p
-use Rattle.token_core.specs.Prints.{Print}
-use Rattle.token_core.specs.Rebuilt.{Visible, IsVisible}
-use Rattle.token_core.specs.Toks.{Toks, done, group}
 use Rattle.token_core.specs.Trees as s
-use Rattle.token_core.specs.Trees.{TokenStream, row, trees, stream_of_trees, delimiter_of, content_of, span_of, group_of}
+use Rattle.token_core.specs.Trees.{delimiter_of, content_of, span_of, group_of}
 use Rattle.token_core.proofs.Rebuilds.{tree-ident, tree-punct, tree-literal, tree-group}
 use Rattle.syn_path.proofs.Words.{AgainFront, row-group}
 

@@ -1,34 +1,17 @@
 -- A type in its place prints its normal form clearly, where what stands within it does: each of its forms.
 use Rattle.std.proofs.Common.{◌≡◌, true, false, List, [], None, refl, sym, ◌∙◌, ap, subst}
+use Rattle.syn_ty.proofs.ty_laws.words.Tokens.{Print, Visible, IsMark, IsWord, Toks, done, row, trees}
+use Rattle.syn_ty.proofs.ty_laws.words.Paths.{Macro, AsWritten, mac, NormalValues, Values}
+use Rattle.syn_ty.proofs.ty_laws.words.Forms.{TypePlace, Plus}
+use Rattle.syn_ty.proofs.ty_laws.words.Types.{TypeInferOf, TypeNeverOf, IsNoTry, NoLifetime, IsPointer, IsBorrow, IsEnclosed, IsBracketed, IsCounted, IsTupled, IsTypeCall, IsType, IsVerbatimType, a_path_type, a_macro, a_bound_macro, an_object_with_dyn, an_object_without_dyn, an_impl_type, a_fn_type, a_ptr_type, a_reference_type, a_paren_type, a_tuple_type, a_slice_type, an_array_type, an_infer_type, a_never_type, a_verbatim_type, IsFnPtr, AreBareBounds, IsDyn, IsImpl, Manner, plainly, clearly, End, closed, Parts, IsInfer, an_infer, IsNever, a_never, TypeTree, infer_of, macro_type_of, never_of, qualified_with, trait_object_with}
 use Rattle.token_core.specs.Prints as p
-use Rattle.token_core.specs.Prints.{Print}
-use Rattle.token_core.specs.Rebuilt.{Visible}
-use Rattle.token_core.specs.Spellings.{IsMark, IsWord}
-use Rattle.token_core.specs.Toks.{Toks, done}
-use Rattle.token_core.specs.Trees.{row, trees}
-use Rattle.syn_path.specs.declared.mac.Macro.{Macro}
-use Rattle.syn_path.specs.declared.path.PathStyle.TheVariants.{AsWritten}
 use Rattle.syn_path.specs.mac.Macros.{Bang}
-use Rattle.syn_path.specs.mac.Printing.{mac}
-use Rattle.syn_path.specs.Values.{NormalValues, Values}
 use Rattle.syn_path.proofs.Words.{AgainFront}
-use Rattle.syn_forms.specs.declared.places.TypePlace.{TypePlace}
-use Rattle.syn_forms.specs.declared.places.TypePlace.TheVariants.{Plus}
 use Rattle.syn_forms.proofs.tokens_laws.Mutability.{word_front}
-use Rattle.syn_ty.specs.declared.ty.TypeInferOf.{TypeInferOf}
-use Rattle.syn_ty.specs.declared.ty.TypeNeverOf.{TypeNeverOf}
 use Rattle.syn_ty.specs.declared.ty.TypeOf.TheVariants as v
-use Rattle.syn_ty.specs.path.Spelling.{IsNoTry}
-use Rattle.syn_ty.specs.ty.Admitted.{NoLifetime, IsPointer, IsBorrow, IsEnclosed, IsBracketed, IsCounted, IsTupled, IsTypeCall, IsType, IsVerbatimType}
-use Rattle.syn_ty.specs.ty.Admitted.{a_path_type, a_macro, a_bound_macro, an_object_with_dyn, an_object_without_dyn, an_impl_type, a_fn_type, a_ptr_type, a_reference_type, a_paren_type, a_tuple_type, a_slice_type, an_array_type, an_infer_type, a_never_type, a_verbatim_type}
-use Rattle.syn_ty.specs.ty.Functions.{IsFnPtr}
 use Rattle.syn_ty.specs.ty.Normal as normal
-use Rattle.syn_ty.specs.ty.Objects.{AreBareBounds, IsDyn, IsImpl}
-use Rattle.syn_ty.specs.ty.Parts.{Manner, plainly, clearly, End, closed, Parts}
 use Rattle.syn_ty.specs.ty.Printing as printing
-use Rattle.syn_ty.specs.ty.Spelling.{IsInfer, an_infer, IsNever, a_never}
-use Rattle.syn_ty.specs.ty.Trees.{TypeTree}
-use Rattle.syn_ty.specs.ty.Types.{Underscore, infer_of, infer_with, macro_type_of, macro_type_with, never_of, never_with, qualified_with, trait_object_with}
+use Rattle.syn_ty.specs.ty.Types.{Underscore, infer_with, macro_type_with, never_with}
 use Rattle.syn_ty.proofs.ty_laws.reprint.Within.{Again, SuppliedAgain}
 use Rattle.syn_ty.proofs.ty_laws.reprint.Angles.{made_front}
 use Rattle.syn_ty.proofs.ty_laws.reprint.Forms.{NoneFirst, type_call_again, pointer_again, borrow_again, enclosed_again, bracketed_again, counted_again, tuple_again}

@@ -1,55 +1,24 @@
 -- The print of each form of types begins as the type does: over what is known of arguments, of bounds that begin with a lifetime, and of what is held verbatim.
 use Rattle.std.proofs.Common.{◌≡◌, ◌==◌, if◌then◌else◌, is_some, Bool, true, false, List, [], ◌∷◌, ◌++◌, Option, Some, None, refl, sym, ◌∙◌, ap, subst}
 use Rattle.std.proofs.lemmas.Bool.{eqb-true}
-use Rattle.token_core.specs.declared.span.DelimSpan.{DelimSpan}
-use Rattle.token_core.specs.declared.tree.Delimiter.{Delimiter}
-use Rattle.token_core.specs.declared.tree.Delimiter.TheVariants.{Parenthesis, Bracket}
-use Rattle.token_core.specs.declared.tree.Spacing.TheVariants.{Joint}
+use Rattle.syn_ty.proofs.ty_laws.words.Tokens.{DelimSpan, Delimiter, Parenthesis, Bracket, Joint, is_keyword, sees_lifetime, with_ident, AfterMark, joined, Many, Print, after_one, is_joint, sees_mark, sees_word, IsVisible, IsMark, is_mark, last_char, Toks, done, word, mark, lit, group, enter, leave, TokenStream, punct, row, stream_of_trees}
+use Rattle.syn_ty.proofs.ty_laws.words.Paths.{Values, Macro, AsWritten, mac, IsCall, a_macro, path_by, a_bare_path, leading, no_leading, last_segment, more_segments}
+use Rattle.syn_ty.proofs.ty_laws.words.Forms.{Object, TypePlace}
+use Rattle.syn_ty.proofs.ty_laws.words.Types.{Abi, AreBounds, no_bounds, last_bound, bound_and_plus, no_modifiers, named_bound, trait_bound_of, is_segment_word, IsAnyPath, unqualified, qualified, IsType, a_path_type, a_bound_macro, an_object_with_dyn, an_object_without_dyn, an_impl_type, a_fn_type, a_ptr_type, a_reference_type, a_paren_type, a_tuple_type, a_slice_type, an_array_type, an_infer_type, a_never_type, a_verbatim_type, a_pointer, a_borrow, a_mutable_borrow, a_lifetime_borrow, enclosed, bracketed, counted, no_element, some_elements, IsTypeCall, IsVerbatimType, IsFnPtr, a_fn_ptr, a_dyn, an_impl, a_first, a_first_for, AreBareBounds, path_alone, path_and_plus, held_and_plus, asked_first, asked_in_two, lifetime_first, in_parens, Manner, plainly, clearly, End, Parts, absent, present, an_infer, a_never, BoundLifetimes, GenericParam, Path, QSelf, TypeFnPtr, TypeParamBound, TypeTree, And, Star, macro_type_of, qualified_with, trait_object_with}
 use Rattle.token_core.specs.Groups as groups
-use Rattle.token_core.specs.Keywords.{is_keyword}
-use Rattle.token_core.specs.Lifetimes.{sees_lifetime, with_ident}
 use Rattle.token_core.specs.Lifetimes as lifetimes
-use Rattle.token_core.specs.Listed.{AfterMark}
-use Rattle.token_core.specs.Lists.{joined}
-use Rattle.token_core.specs.Loops.{Many}
-use Rattle.token_core.specs.Prints.{Print}
 use Rattle.token_core.specs.Prints as p
-use Rattle.token_core.specs.Reads.{after_one, is_joint, sees_mark, sees_word}
-use Rattle.token_core.specs.Rebuilt.{IsVisible}
-use Rattle.token_core.specs.Spellings.{IsMark, is_mark, last_char}
 use Rattle.token_core.specs.Tokens as token
-use Rattle.token_core.specs.Toks.{Toks, done, word, mark, lit, group, enter, leave}
-use Rattle.token_core.specs.Trees.{TokenStream, punct, row, stream_of_trees}
 use Rattle.token_core.proofs.MarkSpells.{mark_again}
 use Rattle.token_core.proofs.Rows.{row-append}
-use Rattle.syn_path.specs.Values.{Values}
-use Rattle.syn_path.specs.declared.mac.Macro.{Macro}
-use Rattle.syn_path.specs.declared.path.PathStyle.TheVariants.{AsWritten}
-use Rattle.syn_path.specs.mac.Printing.{mac}
-use Rattle.syn_path.specs.mac.Spelling.{IsCall, a_macro}
-use Rattle.syn_path.specs.path.Shapes.{path_by}
-use Rattle.syn_path.specs.path.Spelling.{a_bare_path, leading, no_leading, last_segment, more_segments}
 use Rattle.syn_path.proofs.mac_laws.Reprint.{macro_again}
-use Rattle.syn_forms.specs.declared.places.BoundPlace.TheVariants.{Object}
-use Rattle.syn_forms.specs.declared.places.TypePlace.{TypePlace}
 use Rattle.syn_forms.specs.tokens.Printing.{pointer}
 use Rattle.syn_ty.specs.declared.generics.TypeParamBoundOf.TheVariants as b
-use Rattle.syn_ty.specs.declared.ty.Abi.{Abi}
 use Rattle.syn_ty.specs.declared.ty.TypeOf.TheVariants as v
-use Rattle.syn_ty.specs.generics.Bounds.{AreBounds, no_bounds, last_bound, bound_and_plus}
-use Rattle.syn_ty.specs.generics.Modifiers.{no_modifiers}
 use Rattle.syn_ty.specs.generics.Parameters.{begins_as_generics}
-use Rattle.syn_ty.specs.generics.Params.{named_bound, trait_bound_of}
 use Rattle.syn_ty.specs.generics.Shapes.{bare_trait_by}
-use Rattle.syn_ty.specs.path.Spelling.{is_segment_word, IsAnyPath, unqualified, qualified}
-use Rattle.syn_ty.specs.ty.Admitted.{IsType, a_path_type, a_macro as a_macro_type, a_bound_macro, an_object_with_dyn, an_object_without_dyn, an_impl_type, a_fn_type, a_ptr_type, a_reference_type, a_paren_type, a_tuple_type, a_slice_type, an_array_type, an_infer_type, a_never_type, a_verbatim_type, a_pointer, a_borrow, a_mutable_borrow, a_lifetime_borrow, enclosed, bracketed, counted, no_element, some_elements, IsTypeCall, IsVerbatimType}
-use Rattle.syn_ty.specs.ty.Functions.{IsFnPtr, a_fn_ptr}
-use Rattle.syn_ty.specs.ty.Objects.{a_dyn, an_impl, a_first, a_first_for, AreBareBounds, path_alone, path_and_plus, held_and_plus, asked_first, asked_in_two, lifetime_first, in_parens}
-use Rattle.syn_ty.specs.ty.Parts.{Manner, plainly, clearly, End, Parts}
+use Rattle.syn_ty.specs.ty.Admitted.{a_macro as a_macro_type}
 use Rattle.syn_ty.specs.ty.Printing as printing
-use Rattle.syn_ty.specs.ty.Spelling.{absent, present, an_infer, a_never}
-use Rattle.syn_ty.specs.ty.Trees.{BoundLifetimes, GenericParam, Path, QSelf, TypeFnPtr, TypeParamBound, TypeTree}
-use Rattle.syn_ty.specs.ty.Types.{And, Star, macro_type_of, qualified_with, trait_object_with}
 use Rattle.syn_ty.proofs.ty_laws.reprint.Begins.{Quiet, quiet_mark, quiet_before, segment_no_for, Kept, quiet_kept, binder_kept, same_kept, word_quiet, group_quiet, for_first, for_seen, no_second, named, ArgumentsBegin, TypesAlone, path_kept, qualified_kept}
 use Rattle.syn_ty.proofs.ty_laws.reprint.HeldBegin.{held_kept}
 use Rattle.syn_ty.proofs.ty_laws.reprint.EndsTypes.{verbatim_over}

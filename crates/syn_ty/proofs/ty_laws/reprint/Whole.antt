@@ -1,38 +1,19 @@
 -- Each grammar of this layer is reprinted: what spells all of a list plainly prints its normal form clearly, which is its own and prints the same.
 use Rattle.std.proofs.Common.{ℕ, Bool, true, false, List, [], Option, option_map, sym, ◌∙◌}
 use Rattle.std.proofs.lemmas.Bool.{true≢false}
+use Rattle.syn_ty.proofs.ty_laws.words.Tokens.{Print, IsMark, Toks, done}
+use Rattle.syn_ty.proofs.ty_laws.words.Paths.{AsWritten, Expr, NormalValues, SpelledValues, Values}
+use Rattle.syn_ty.proofs.ty_laws.words.Forms.{Opaque, Binder, TypePlace, Plus, NoPlus}
+use Rattle.syn_ty.proofs.ty_laws.words.Types.{CapturedParam, Abi, IsBound, IsCapture, IsCaptured, IsFor, IsTraitBound, IsConstParam, IsParam, IsTypeParam, alone, IsArgument, IsParens, IsReturn, IsAngle, an_angle, IsPath, IsSegment, Styled, IsBorrow, IsBracketed, IsCounted, IsEnclosed, IsPointer, IsTupled, IsType, IsAbi, IsFnPtr, IsNamedArg, IsImpl, IsObject, Manner, plainly, clearly, End, Parts, Relation, IsOptional, absent, present, IsPathAlone, AngleBracketed}
 use Rattle.token_core.specs.Prints as p
-use Rattle.token_core.specs.Prints.{Print}
-use Rattle.token_core.specs.Spellings.{IsMark}
 use Rattle.token_core.specs.Tokens as token
-use Rattle.token_core.specs.Toks.{Toks, done}
-use Rattle.syn_path.specs.declared.path.PathStyle.TheVariants.{AsWritten, Expr}
-use Rattle.syn_path.specs.Values.{NormalValues, SpelledValues, Values}
 use Rattle.syn_path.proofs.Words.{Again, AgainFront}
-use Rattle.syn_forms.specs.declared.places.BoundPlace.TheVariants.{Opaque}
-use Rattle.syn_forms.specs.declared.places.ParamPlace.TheVariants.{Binder}
-use Rattle.syn_forms.specs.declared.places.TypePlace.{TypePlace}
-use Rattle.syn_forms.specs.declared.places.TypePlace.TheVariants.{Plus, NoPlus}
-use Rattle.syn_ty.specs.declared.generics.CapturedParam.{CapturedParam}
-use Rattle.syn_ty.specs.declared.ty.Abi.{Abi}
-use Rattle.syn_ty.specs.generics.Bounds.{IsBound, IsCapture, IsCaptured, IsFor, IsTraitBound}
 use Rattle.syn_ty.specs.generics.NormalShapes as shapes
-use Rattle.syn_ty.specs.generics.Parameters.{IsConstParam, IsParam, IsTypeParam}
 use Rattle.syn_ty.specs.generics.Shapes as shown_shapes
-use Rattle.syn_ty.specs.path.Arguments.{alone, IsArgument}
 use Rattle.syn_ty.specs.path.Printing as shown_paths
-use Rattle.syn_ty.specs.path.Signed.{IsParens, IsReturn}
-use Rattle.syn_ty.specs.path.Spelling.{IsAngle, an_angle, IsPath, IsSegment, Styled}
-use Rattle.syn_ty.specs.ty.Admitted.{IsBorrow, IsBracketed, IsCounted, IsEnclosed, IsPointer, IsTupled, IsType}
-use Rattle.syn_ty.specs.ty.Functions.{IsAbi, IsFnPtr, IsNamedArg}
 use Rattle.syn_ty.specs.ty.Normal as normal
-use Rattle.syn_ty.specs.ty.Objects.{IsImpl, IsObject}
-use Rattle.syn_ty.specs.ty.Parts.{Manner, plainly, clearly, End, Parts}
 use Rattle.syn_ty.specs.ty.Printing as printing
-use Rattle.syn_ty.specs.ty.Spelling.{Relation, IsOptional, absent, present}
 use Rattle.syn_ty.specs.ty.Spelt as by
-use Rattle.syn_ty.specs.ty.Spelt.{IsPathAlone}
-use Rattle.syn_ty.specs.ty.Trees.{AngleBracketed}
 use Rattle.syn_ty.proofs.ty_laws.reprint.Angles.{angle_again, lt_no_sep, styled_angle_again}
 use Rattle.syn_ty.proofs.ty_laws.reprint.Capture as captures
 use Rattle.syn_ty.proofs.ty_laws.reprint.Forms.{pointer_again, borrow_again, enclosed_again, bracketed_again, counted_again, tupled_again}

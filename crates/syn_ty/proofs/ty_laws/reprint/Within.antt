@@ -1,18 +1,13 @@
 -- What is known of what a form holds: where a tree spells a list plainly, its print spells its normal form clearly; that is its own normal form, and prints the same.
 use Rattle.std.proofs.Common.{◌≡◌, List, []}
-use Rattle.token_core.specs.Prints.{Print}
-use Rattle.token_core.specs.Toks.{Toks}
-use Rattle.syn_path.specs.declared.path.PathStyle.TheVariants.{AsWritten}
+use Rattle.syn_ty.proofs.ty_laws.words.Tokens.{Print, Toks}
+use Rattle.syn_ty.proofs.ty_laws.words.Paths.{AsWritten, NormalValues, Values}
+use Rattle.syn_ty.proofs.ty_laws.words.Forms.{BoundPlace, ParamPlace, TypePlace}
+use Rattle.syn_ty.proofs.ty_laws.words.Types.{Manner, plainly, clearly, End, Parts, GenericArgument, GenericParam, PathArguments, TypeParamBound, TypeTree}
 use Rattle.syn_path.specs.Supplied.{Reprints}
-use Rattle.syn_path.specs.Values.{NormalValues, Values}
 use Rattle.syn_path.proofs.Words.{AgainFront}
-use Rattle.syn_forms.specs.declared.places.BoundPlace.{BoundPlace}
-use Rattle.syn_forms.specs.declared.places.ParamPlace.{ParamPlace}
-use Rattle.syn_forms.specs.declared.places.TypePlace.{TypePlace}
 use Rattle.syn_ty.specs.ty.Normal as normal
-use Rattle.syn_ty.specs.ty.Parts.{Manner, plainly, clearly, End, Parts}
 use Rattle.syn_ty.specs.ty.Printing as printing
-use Rattle.syn_ty.specs.ty.Trees.{GenericArgument, GenericParam, PathArguments, TypeParamBound, TypeTree}
 use Rattle.syn_ty.proofs.ty_laws.reprint.MovesParts.{Moving}
 
 module _ {A E : Type 0} (na : List A → List A) (ne : NormalValues E) (pa : List A → Print) (pe : Values E) where

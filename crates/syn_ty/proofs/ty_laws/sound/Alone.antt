@@ -1,46 +1,19 @@
 -- Each reader of this layer on the front of a list without invisible groups: where it answers, what was taken is spelt by the whole grammar, by trees of some height.
 use Rattle.std.proofs.Common.{◌≡◌, ℕ, suc, ◌<◌, ◌≤◌, Bool, false, List, [], Option, Some, None, Ok, refl, subst, arith}
-use Rattle.token_core.specs.declared.span.DelimSpan.{DelimSpan}
-use Rattle.token_core.specs.Groups.{invisible_at, is_there, next_invisible, open_invisible, sees_invisible}
-use Rattle.token_core.specs.Reads.{Reader, closing, leaves}
-use Rattle.token_core.specs.Rebuilt.{Visible}
-use Rattle.token_core.specs.Stream.{Stream}
-use Rattle.token_core.specs.Toks.{Toks}
+use Rattle.syn_ty.proofs.ty_laws.words.Tokens.{DelimSpan, sees_invisible, Reader, closing, leaves, Visible, Stream, Toks}
+use Rattle.syn_ty.proofs.ty_laws.words.Paths.{PathStyle, AsWritten, ReadValues, SpelledValues}
+use Rattle.syn_ty.proofs.ty_laws.words.Forms.{BoundPlace, Object, Opaque, ParamPlace, Binder, TypePlace, Plus, NoPlus, in_invisible, sees_name, ahead, allows_plus}
+use Rattle.syn_ty.proofs.ty_laws.words.Types.{IsBound, IsFor, IsTraitBound, IsConstParam, IsParam, IsTypeParam, alone, between_angles, IsArgument, IsParens, IsReturn, IsAngle, IsArguments, IsPath, IsSegment, IsBorrow, IsBracketed, IsCounted, IsEnclosed, IsPointer, IsTupled, IsType, IsFnPtr, IsNamedArg, reads_below, IsImpl, IsObject, Manner, loosely, Parts, Readers, a_bound, a_param, a_type, an_argument, some_arguments, IsOptional, IsPathAlone, spelt_to, AngleBracketed, BoundLifetimes, ConstParam, GenericArgument, GenericParam, NamedArg, Parenthesized, Path, PathArguments, PathSegment, QSelf, ReturnType, TraitBound, TypeArray, TypeFnPtr, TypeGroup, TypeImplTrait, TypeParam, TypeParamBound, TypeParen, TypePath, TypePtr, TypeReference, TypeSlice, TypeTraitObject, TypeTree, TypeTuple}
+use Rattle.token_core.specs.Groups.{invisible_at, is_there, next_invisible, open_invisible}
 use Rattle.token_core.proofs.Took.{mapped}
 use Rattle.token_core.proofs.Turns.{chain}
 use Rattle.syn_path.proofs.Words.{TookOne}
-use Rattle.syn_path.specs.declared.path.PathStyle.{PathStyle}
-use Rattle.syn_path.specs.declared.path.PathStyle.TheVariants.{AsWritten}
-use Rattle.syn_path.specs.Values.{ReadValues, SpelledValues}
-use Rattle.syn_forms.specs.declared.places.BoundPlace.{BoundPlace}
-use Rattle.syn_forms.specs.declared.places.BoundPlace.TheVariants.{Object, Opaque}
-use Rattle.syn_forms.specs.declared.places.ParamPlace.{ParamPlace}
-use Rattle.syn_forms.specs.declared.places.ParamPlace.TheVariants.{Binder}
-use Rattle.syn_forms.specs.declared.places.TypePlace.{TypePlace}
-use Rattle.syn_forms.specs.declared.places.TypePlace.TheVariants.{Plus, NoPlus}
-use Rattle.syn_forms.specs.groups.Reading.{in_invisible}
-use Rattle.syn_forms.specs.inputs.Reading.{sees_name}
-use Rattle.syn_forms.specs.nested.Below.{ahead}
-use Rattle.syn_forms.specs.places.Reading.{allows_plus}
 use Rattle.syn_forms.proofs.nested_laws.Ahead.{ahead_follows}
 use Rattle.syn_forms.proofs.tokens_laws.Fronts.{took_whole}
-use Rattle.syn_ty.specs.generics.Bounds.{IsBound, IsFor, IsTraitBound}
-use Rattle.syn_ty.specs.generics.Parameters.{IsConstParam, IsParam, IsTypeParam}
 use Rattle.syn_ty.specs.path.Alone as paths
-use Rattle.syn_ty.specs.path.Arguments.{alone, between_angles, IsArgument}
-use Rattle.syn_ty.specs.path.Signed.{IsParens, IsReturn}
-use Rattle.syn_ty.specs.path.Spelling.{IsAngle, IsArguments, IsPath, IsSegment}
-use Rattle.syn_ty.specs.ty.Admitted.{IsBorrow, IsBracketed, IsCounted, IsEnclosed, IsPointer, IsTupled, IsType}
-use Rattle.syn_ty.specs.ty.Functions.{IsFnPtr, IsNamedArg}
 use Rattle.syn_ty.specs.ty.Knot as knot
-use Rattle.syn_ty.specs.ty.Knot.{reads_below}
-use Rattle.syn_ty.specs.ty.Objects.{IsImpl, IsObject}
-use Rattle.syn_ty.specs.ty.Parts.{Manner, loosely, Parts}
-use Rattle.syn_ty.specs.ty.Points.{Readers, a_bound, a_param, a_type, an_argument, some_arguments}
 use Rattle.syn_ty.specs.ty.Reading as reading
-use Rattle.syn_ty.specs.ty.Spelling.{IsOptional}
-use Rattle.syn_ty.specs.ty.Spelt.{BeginsEnding, IsPathAlone, Spells, SpellsEnding, spelt_to}
-use Rattle.syn_ty.specs.ty.Trees.{AngleBracketed, BoundLifetimes, ConstParam, GenericArgument, GenericParam, NamedArg, Parenthesized, Path, PathArguments, PathSegment, QSelf, ReturnType, TraitBound, TypeArray, TypeFnPtr, TypeGroup, TypeImplTrait, TypeParam, TypeParamBound, TypeParen, TypePath, TypePtr, TypeReference, TypeSlice, TypeTraitObject, TypeTree, TypeTuple}
+use Rattle.syn_ty.specs.ty.Spelt.{BeginsEnding, Spells, SpellsEnding}
 use Rattle.syn_ty.specs.ty.Types.{group_with}
 use Rattle.syn_ty.proofs.ty_laws.sound.AlongTypes.{optional_dyn_along}
 use Rattle.syn_ty.proofs.ty_laws.sound.Angles as angles

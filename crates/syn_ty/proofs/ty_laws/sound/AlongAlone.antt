@@ -1,22 +1,16 @@
 -- Single forms of paths, bounds, parameters and types, what they hold read by the knot: where one is read, the stream stands further on.
 use Rattle.std.proofs.Common.{Bool, false, List}
-use Rattle.syn_forms.specs.declared.places.BoundPlace.TheVariants.{Object}
-use Rattle.syn_forms.specs.declared.places.TypePlace.{TypePlace}
-use Rattle.syn_forms.specs.declared.places.TypePlace.TheVariants.{Plus}
-use Rattle.syn_forms.specs.nested.Below.{ahead}
-use Rattle.syn_path.specs.declared.path.PathStyle.{PathStyle}
-use Rattle.syn_path.specs.declared.path.PathStyle.TheVariants.{AsWritten}
-use Rattle.syn_path.specs.Values.{ReadValues}
+use Rattle.syn_ty.proofs.ty_laws.words.Tokens.{Reader}
+use Rattle.syn_ty.proofs.ty_laws.words.Paths.{PathStyle, AsWritten, ReadValues, Along}
+use Rattle.syn_ty.proofs.ty_laws.words.Forms.{Object, TypePlace, Plus, ahead}
+use Rattle.syn_ty.proofs.ty_laws.words.Types.{reads_below, Point, Readers, a_bound, a_type}
 use Rattle.syn_ty.specs.path.Alone as paths
 use Rattle.syn_ty.specs.ty.Knot as knot
-use Rattle.syn_ty.specs.ty.Knot.{reads_below, single}
-use Rattle.syn_ty.specs.ty.Points.{Point, Readers, a_bound, a_type}
-use Rattle.token_core.specs.Reads.{Reader}
+use Rattle.syn_ty.specs.ty.Knot.{single}
 use Rattle.syn_ty.proofs.ty_laws.sound.AlongBounds as bounds
 use Rattle.syn_ty.proofs.ty_laws.sound.AlongKnot.{read_along, reads_below_along}
 use Rattle.syn_ty.proofs.ty_laws.sound.AlongPaths as path
 use Rattle.syn_ty.proofs.ty_laws.sound.AlongTypes as types
-use Rattle.syn_path.specs.Took.{Along}
 
 module _ {A E : Type 0} (attrs : Reader (List A)) (values : ReadValues E) (g : Along attrs) (value : Along values.const_argument) where
   pub single_along : {F : Type 0} (form : Readers A E → Reader F) → ((r : Readers A E) → ((q : Point) → Along (r q)) → Along (form r)) → Along (single attrs values form)

@@ -1,21 +1,16 @@
 -- Where the read of a binder, of a bound or of a parameter answers, the stream stands further on, over the same of what it holds.
 use Rattle.std.proofs.Common.{Bool, List, Option, Some, None}
-use Rattle.syn_forms.specs.declared.places.BoundPlace.{BoundPlace}
-use Rattle.syn_forms.specs.declared.places.ParamPlace.{ParamPlace}
+use Rattle.syn_ty.proofs.ty_laws.words.Tokens.{Reader}
+use Rattle.syn_ty.proofs.ty_laws.words.Paths.{ReadValues, Along}
+use Rattle.syn_ty.proofs.ty_laws.words.Forms.{BoundPlace, ParamPlace}
+use Rattle.syn_ty.proofs.ty_laws.words.Types.{CapturedParam, TraitBoundModifiers, Point, Readers, BoundLifetimes, Path}
 use Rattle.syn_forms.specs.declared.places.ParamPlace.TheVariants as p
-use Rattle.syn_path.specs.Values.{ReadValues}
-use Rattle.syn_ty.specs.declared.generics.CapturedParam.{CapturedParam}
-use Rattle.syn_ty.specs.declared.generics.TraitBoundModifiers.{TraitBoundModifiers}
 use Rattle.syn_ty.specs.generics.Reading as reading
-use Rattle.syn_ty.specs.ty.Points.{Point, Readers}
-use Rattle.syn_ty.specs.ty.Trees.{BoundLifetimes, Path}
-use Rattle.token_core.specs.Reads.{Reader}
 use Rattle.token_core.specs.Tokens as token
 use Rattle.syn_forms.proofs.along_laws.Forms as forms
 use Rattle.syn_ty.proofs.ty_laws.sound.AlongPaths.{path_along, signed_along}
 use Rattle.syn_ty.proofs.ty_laws.sound.Modifiers.{modifiers_along}
 use Rattle.syn_forms.proofs.along_laws.Kit.{further}
-use Rattle.syn_path.specs.Took.{Along}
 
 -- ---- captures
 

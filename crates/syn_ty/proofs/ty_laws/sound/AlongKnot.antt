@@ -1,16 +1,14 @@
 -- The reads that go back to themselves: where one answers, the stream stands further on.
 use Rattle.std.proofs.Common.{ℕ, zero, suc, List}
-use Rattle.syn_path.specs.Values.{ReadValues}
-use Rattle.syn_forms.specs.declared.places.TypePlace.TheVariants.{Plus}
-use Rattle.syn_forms.specs.nested.Below.{ahead, below}
-use Rattle.syn_ty.specs.ty.Knot.{argument_in, arguments_in, bound, param, step, read_at, read, reads_below, ty}
-use Rattle.syn_ty.specs.ty.Points.{Point, Readers, a_bound, a_param, a_type, an_argument, some_arguments}
-use Rattle.token_core.specs.Reads.{Reader}
+use Rattle.syn_ty.proofs.ty_laws.words.Tokens.{Reader}
+use Rattle.syn_ty.proofs.ty_laws.words.Paths.{ReadValues, Along}
+use Rattle.syn_ty.proofs.ty_laws.words.Forms.{Plus, ahead, below}
+use Rattle.syn_ty.proofs.ty_laws.words.Types.{bound, step, read_at, read, reads_below, ty, Point, Readers, a_bound, a_param, a_type, an_argument, some_arguments}
+use Rattle.syn_ty.specs.ty.Knot.{argument_in, arguments_in, param}
 use Rattle.syn_ty.proofs.ty_laws.sound.AlongBounds.{bound_step_along, param_step_along}
 use Rattle.syn_ty.proofs.ty_laws.sound.AlongPaths.{argument_step_along, arguments_step_along}
 use Rattle.syn_forms.proofs.along_laws.Kit.{below_along, held_along}
 use Rattle.syn_ty.proofs.ty_laws.sound.AlongTypes.{type_step_along}
-use Rattle.syn_path.specs.Took.{Along}
 
 module _ {A E : Type 0} (attrs : Reader (List A)) (values : ReadValues E) (g : Along attrs) (value : Along values.const_argument) where
   -- one turn, over the readers of all points

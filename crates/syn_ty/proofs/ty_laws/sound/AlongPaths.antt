@@ -1,22 +1,14 @@
 -- Where the read of a path, of its arguments or of one of them answers, the stream stands further on, over the same of what it holds.
 use Rattle.std.proofs.Common.{[], Option, Some, None}
-use Rattle.syn_forms.specs.declared.places.BoundPlace.TheVariants.{Parameter}
-use Rattle.syn_forms.specs.declared.places.TypePlace.TheVariants.{Plus, NoPlus}
-use Rattle.syn_path.specs.declared.path.PathStyle.{PathStyle}
-use Rattle.syn_path.specs.Values.{ReadValues}
-use Rattle.syn_ty.specs.path.Paths.{Sep}
+use Rattle.syn_ty.proofs.ty_laws.words.Tokens.{Ident, Reader}
+use Rattle.syn_ty.proofs.ty_laws.words.Paths.{PathStyle, ReadValues, Along}
+use Rattle.syn_ty.proofs.ty_laws.words.Forms.{Parameter, Plus, NoPlus}
+use Rattle.syn_ty.proofs.ty_laws.words.Types.{Sep, ends_constraint, Point, Readers, a_bound, a_type, AngleBracketed, NamedArg, Path, TypeTree, named_arg_of}
 use Rattle.syn_ty.specs.path.Reading as reading
-use Rattle.syn_ty.specs.path.Reading.{ends_constraint}
-use Rattle.syn_ty.specs.ty.Points.{Point, Readers, a_bound, a_type}
-use Rattle.syn_ty.specs.ty.Trees.{AngleBracketed, NamedArg, Path, TypeTree}
-use Rattle.syn_ty.specs.ty.Types.{named_arg_of}
-use Rattle.token_core.specs.declared.tree.Ident.{Ident}
-use Rattle.token_core.specs.Reads.{Reader}
 use Rattle.token_core.specs.Tokens as token
 use Rattle.syn_forms.proofs.along_laws.Forms as forms
 use Rattle.syn_path.proofs.Along.{either, made}
 use Rattle.syn_forms.proofs.along_laws.Kit.{further}
-use Rattle.syn_path.specs.Took.{Along}
 
 module _ {A E : Type 0} {r : Readers A E} (al : (q : Point) → Along (r q)) where
   pub arguments_after_along : (c : Option Sep) → Along (reading.arguments_after r c)

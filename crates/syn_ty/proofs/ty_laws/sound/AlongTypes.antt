@@ -1,28 +1,18 @@
 -- Where the read of a form of types answers, the stream stands further on, over the same of what it holds.
 use Rattle.std.proofs.Common.{Bool, List, Option, Some, None}
-use Rattle.syn_forms.specs.declared.groups.ParenContent.{ParenContent}
+use Rattle.syn_ty.proofs.ty_laws.words.Tokens.{Span, GroupToken, Paren, Many, Item, Reader}
+use Rattle.syn_ty.proofs.ty_laws.words.Paths.{ReadValues, Along}
+use Rattle.syn_ty.proofs.ty_laws.words.Forms.{ParenContent, Object, Opaque, TypePlace, Plus, NoPlus}
+use Rattle.syn_ty.proofs.ty_laws.words.Types.{Point, Readers, a_bound, a_type, some_arguments, BoundLifetimes, Path, QSelf, TraitBound, TypeParamBound, TypePath, TypeTree}
 use Rattle.syn_forms.specs.declared.groups.ParenContent.TheVariants as held
-use Rattle.syn_forms.specs.declared.places.BoundPlace.TheVariants.{Object, Opaque}
-use Rattle.syn_forms.specs.declared.places.TypePlace.{TypePlace}
-use Rattle.syn_forms.specs.declared.places.TypePlace.TheVariants.{Plus, NoPlus}
-use Rattle.syn_path.specs.Values.{ReadValues}
-use Rattle.syn_ty.specs.ty.Points.{Point, Readers, a_bound, a_type, some_arguments}
 use Rattle.syn_ty.specs.ty.Reading as reading
-use Rattle.syn_ty.specs.ty.Trees.{BoundLifetimes, Path, QSelf, TraitBound, TypeParamBound, TypePath, TypeTree}
 use Rattle.token_core.specs.declared.error.ErrorKind.{ErrorKind}
-use Rattle.token_core.specs.declared.span.Span.{Span}
-use Rattle.token_core.specs.declared.token.GroupToken.{GroupToken}
-use Rattle.token_core.specs.declared.token.Paren.{Paren}
-use Rattle.token_core.specs.Loops.{Many}
-use Rattle.token_core.specs.Positions.{Item}
-use Rattle.token_core.specs.Reads.{Reader}
 use Rattle.token_core.specs.Tokens as token
 use Rattle.syn_ty.proofs.ty_laws.sound.AlongBounds.{binder_along, optional_binder_along, trait_in_along}
 use Rattle.syn_forms.proofs.along_laws.Forms as forms
 use Rattle.syn_ty.proofs.ty_laws.sound.AlongPaths.{maybe_qualified_along, path_along, rest_along}
 use Rattle.syn_path.proofs.Along.{lifetime, opening}
 use Rattle.syn_forms.proofs.along_laws.Kit.{further}
-use Rattle.syn_path.specs.Took.{Along}
 
 -- ---- tokens
 

@@ -1,30 +1,21 @@
 -- Where arguments in angle brackets are read, they are spelt by the rules of the whole grammar, over the same law of an argument: the turn of the knot that reads them, and the reader that wants the `::`.
 use Rattle.std.proofs.Common.{◌≡◌, Bool, true, false, not, Option, Some, None, Ok, refl, sym, ◌∙◌, subst, arith}
-use Rattle.token_core.specs.Listed.{AreListed, Anywhere}
-use Rattle.token_core.specs.Loops.{Many, terminated}
-use Rattle.token_core.specs.Reads.{Reader, optional}
-use Rattle.token_core.specs.Rebuilt.{Visible}
-use Rattle.token_core.specs.Spellings.{IsMark}
-use Rattle.token_core.specs.Stream.{Stream}
+use Rattle.syn_ty.proofs.ty_laws.words.Tokens.{AreListed, Anywhere, Many, terminated, Reader, optional, Visible, IsMark, Stream, Toks}
+use Rattle.syn_ty.proofs.ty_laws.words.Paths.{Expr}
+use Rattle.syn_ty.proofs.ty_laws.words.Forms.{comma, sees_gt}
+use Rattle.syn_ty.proofs.ty_laws.words.Types.{Sep, angle_of, arguments_step, Styled, IsAngle, an_angle, IsArguments, Manner, loosely, Parts, Readers, an_argument, Relation, IsOptional, present, AngleBracketed, GenericArgument, PathArguments}
 use Rattle.token_core.specs.Tokens as token
-use Rattle.token_core.specs.Toks.{Toks}
 use Rattle.token_core.proofs.Listings.{listed_sound, listed_visible}
 use Rattle.token_core.proofs.MarkSpells.{mark_seen, mark_sound, mark_visible}
 use Rattle.token_core.proofs.Took.{mapped}
 use Rattle.token_core.proofs.Turns.{chain, same_pair}
 use Rattle.syn_path.proofs.Words.{TookOne}
-use Rattle.syn_path.specs.declared.path.PathStyle.TheVariants.{Expr}
 use Rattle.syn_forms.specs.heads.Reading as heads
-use Rattle.syn_forms.specs.tokens.Reading.{comma, gt, lt, sees_gt}
+use Rattle.syn_forms.specs.tokens.Reading.{gt, lt}
 use Rattle.syn_forms.proofs.tokens_laws.Fronts.{took_as}
 use Rattle.syn_ty.specs.declared.path.PathArgumentsOf.TheVariants as a
-use Rattle.syn_ty.specs.path.Paths.{Sep, angle_of}
-use Rattle.syn_ty.specs.path.Reading.{angle_bracketed, arguments_after, arguments_step, turbofish}
-use Rattle.syn_ty.specs.path.Spelling.{Styled, IsAngle, an_angle, IsArguments, some_arguments}
-use Rattle.syn_ty.specs.ty.Parts.{Manner, loosely, Parts}
-use Rattle.syn_ty.specs.ty.Points.{Readers, an_argument}
-use Rattle.syn_ty.specs.ty.Spelling.{Relation, IsOptional, present}
-use Rattle.syn_ty.specs.ty.Trees.{AngleBracketed, GenericArgument, PathArguments}
+use Rattle.syn_ty.specs.path.Reading.{angle_bracketed, arguments_after, turbofish}
+use Rattle.syn_ty.specs.path.Spelling.{some_arguments}
 use Rattle.syn_ty.proofs.ty_laws.sound.Paths.{sep_took}
 use Rattle.syn_ty.proofs.ty_laws.sound.Leaves.{comma_seen, comma_took, optional_sound}
 

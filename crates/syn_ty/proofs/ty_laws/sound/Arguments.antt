@@ -1,45 +1,23 @@
 -- Where a generic argument is read, it is spelt by the rules of the whole grammar, over the law of the type that may begin it; and one that is all of a list is spelt as an argument alone.
 use Rattle.std.specs.Prelude.{is_some}
 use Rattle.std.proofs.Common.{◌≡◌, ℕ, zero, suc, Bool, true, false, ◌||◌, List, [], ◌∷◌, Option, Some, None, Ok, inl, inr, refl, sym, ◌∙◌, ap, subst, arith}
-use Rattle.token_core.specs.declared.tree.Ident.{Ident}
-use Rattle.token_core.specs.Front.{front}
-use Rattle.token_core.specs.Lifetimes.{read_lifetime}
-use Rattle.token_core.specs.Listed.{none_left, last_value, value_and_mark, Anywhere, Nowhere}
-use Rattle.token_core.specs.Loops.{Many, listed, listed_from, never, size}
-use Rattle.token_core.specs.Reads.{Reader, any_text, as_punct, as_word, is_ident, is_last, is_text, leaves, past_mark, past_next, sees_mark, sees_word, word_meets}
-use Rattle.token_core.specs.Rebuilt.{Visible}
-use Rattle.token_core.specs.Spellings.{IsMark, IsLifetime}
-use Rattle.token_core.specs.Stream.{Stream}
+use Rattle.syn_ty.proofs.ty_laws.words.Tokens.{Ident, front, read_lifetime, none_left, last_value, value_and_mark, Anywhere, Nowhere, Many, listed, listed_from, never, size, Reader, any_text, as_punct, as_word, is_ident, is_last, is_text, leaves, past_mark, past_next, sees_mark, sees_word, Visible, IsMark, IsLifetime, Stream, Toks, done, word, mark, lit, group, enter, leave}
+use Rattle.syn_ty.proofs.ty_laws.words.Paths.{AsWritten, is_mod_word, ReadValues}
+use Rattle.syn_ty.proofs.ty_laws.words.Forms.{Parameter, Plus, bounds_to}
+use Rattle.syn_ty.proofs.ty_laws.words.Types.{out-PathArgumentsOf, out-roll-TypePathOf, AreBounds, ArgumentPlace, alone, between_angles, ConstraintEnds, IsItemName, an_item, an_item_with_arguments, IsArgument, a_lifetime_argument, a_type_argument, a_const_argument, an_assoc_type, an_assoc_const, a_constraint, assoc_const_of, assoc_type_of, constraint_of, ItemName, after_type, argument_step, ends_constraint, generics_layer, item_of_path, sees_const, sees_lone_lifetime, with_name, is_segment_word, IsArguments, IsSegment, a_word, a_word_with_arguments, a_path, IsAnyPath, unqualified, qualified, IsType, a_path_type, a_macro, a_bound_macro, an_object_with_dyn, an_object_without_dyn, an_impl_type, a_fn_type, a_ptr_type, a_reference_type, a_paren_type, a_tuple_type, a_slice_type, an_array_type, an_infer_type, a_never_type, a_verbatim_type, Manner, loosely, End, Parts, Readers, a_bound, a_type, absent, present, AngleBracketed, GenericArgument, Path, PathArguments, PathSegment, QSelf, TypeParamBound, TypeTree, qualified_with}
+use Rattle.token_core.specs.Reads.{word_meets}
 use Rattle.token_core.specs.Tokens as token
-use Rattle.token_core.specs.Toks.{Toks, done, word, mark, lit, group, enter, leave}
 use Rattle.token_core.proofs.MarkSpells.{mark_sound, mark_visible}
 use Rattle.token_core.proofs.Steps.{chosen, link}
 use Rattle.token_core.proofs.Took.{branch, mapped, took_all}
 use Rattle.token_core.proofs.Turns.{chain, same_pair}
 use Rattle.syn_path.proofs.Words.{TookOne}
-use Rattle.syn_path.specs.declared.path.PathStyle.TheVariants.{AsWritten}
-use Rattle.syn_path.specs.path.Spelling.{is_mod_word}
-use Rattle.syn_path.specs.Values.{ReadValues}
-use Rattle.syn_forms.specs.declared.places.BoundPlace.TheVariants.{Parameter}
-use Rattle.syn_forms.specs.declared.places.TypePlace.TheVariants.{Plus}
-use Rattle.syn_forms.specs.lists.Reading.{bounds_to}
 use Rattle.syn_forms.proofs.tokens_laws.Fronts.{nothing_left, took_as}
 use Rattle.syn_ty.specs.declared.path.GenericArgumentOf.TheVariants as k
 use Rattle.syn_ty.specs.declared.path.PathArgumentsOf.TheVariants as a
-use Rattle.syn_ty.specs.declared.path.PathArgumentsOf.{out-PathArgumentsOf}
 use Rattle.syn_ty.specs.declared.ty.TypeOf.TheVariants as form
-use Rattle.syn_ty.specs.declared.ty.TypePathOf.{out-roll-TypePathOf}
-use Rattle.syn_ty.specs.generics.Bounds.{AreBounds}
-use Rattle.syn_ty.specs.path.Arguments.{ArgumentPlace, alone, between_angles, ConstraintEnds, IsItemName, an_item, an_item_with_arguments, IsArgument, a_lifetime_argument, a_type_argument, a_const_argument, an_assoc_type, an_assoc_const, a_constraint}
-use Rattle.syn_ty.specs.path.Paths.{assoc_const_of, assoc_type_of, constraint_of}
-use Rattle.syn_ty.specs.path.Reading.{ItemName, after_item, after_type, argument_step, assoc, constraint, ends_constraint, generics_layer, item_layer, item_of, item_of_path, item_of_path_layer, sees_const, sees_lone_lifetime, with_name}
-use Rattle.syn_ty.specs.path.Spelling.{is_segment_word, IsArguments, some_arguments, IsSegment, a_word, a_word_with_arguments, a_path, IsAnyPath, unqualified, qualified}
-use Rattle.syn_ty.specs.ty.Admitted.{IsType, a_path_type, a_macro, a_bound_macro, an_object_with_dyn, an_object_without_dyn, an_impl_type, a_fn_type, a_ptr_type, a_reference_type, a_paren_type, a_tuple_type, a_slice_type, an_array_type, an_infer_type, a_never_type, a_verbatim_type}
-use Rattle.syn_ty.specs.ty.Parts.{Manner, loosely, End, Parts}
-use Rattle.syn_ty.specs.ty.Points.{Readers, a_bound, a_type}
-use Rattle.syn_ty.specs.ty.Spelling.{absent, present}
-use Rattle.syn_ty.specs.ty.Trees.{AngleBracketed, GenericArgument, Path, PathArguments, PathSegment, QSelf, TypeParamBound, TypeTree}
-use Rattle.syn_ty.specs.ty.Types.{qualified_with}
+use Rattle.syn_ty.specs.path.Reading.{after_item, assoc, constraint, item_layer, item_of, item_of_path_layer}
+use Rattle.syn_ty.specs.path.Spelling.{some_arguments}
 use Rattle.syn_ty.proofs.ty_laws.sound.Bounds.{bounds_took}
 use Rattle.syn_ty.proofs.ty_laws.sound.Leaves.{life_sound}
 use Rattle.syn_ty.proofs.ty_laws.sound.Forms.{Told, both}

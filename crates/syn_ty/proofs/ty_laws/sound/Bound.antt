@@ -1,46 +1,24 @@
 -- Where a bound is read in its place, it is spelt by the rules of the whole grammar: a lifetime, a capture, or a trait bound, also in parentheses.
 use Rattle.std.proofs.Common.{◌≡◌, Bool, true, false, not, [], ◌∷◌, Option, Some, None, Ok, inl, inr, refl, sym, ◌∙◌, ap, subst, arith}
+use Rattle.syn_ty.proofs.ty_laws.words.Tokens.{DelimSpan, Paren, Parenthesis, Ident, sees_lifetime, read_lifetime, AreListed, Anywhere, Many, Reader, any_text, here, ident_name, in_group, leaves, pure, read_word, sees_group, sees_word, Visible, IsMark, IsWord, IsLifetime, Stream, Toks, done, word, group}
+use Rattle.syn_ty.proofs.ty_laws.words.Forms.{BoundPlace, Binder, list, is_named_word, allows_const, refuse_since}
+use Rattle.syn_ty.proofs.ty_laws.words.Types.{CapturedParam, PreciseCapture, out-roll-TraitBoundOf, TraitBoundModifiers, IsCaptured, a_lifetime_captured, a_name_captured, IsCapture, a_capture, IsTraitBound, a_trait_bound, IsBound, a_lifetime_bound, a_bare_bound, a_bound_in_parens, a_capture_bound, held_bound, trait_bound_of, captured_comma, listed_captured, trait_in, Manner, loosely, End, closed, Parts, Readers, BoundLifetimes, Path, TraitBound, TypeParamBound}
 use Rattle.token_core.specs.declared.error.ErrorKind.TheVariants.{CaptureNotAllowed}
-use Rattle.token_core.specs.declared.span.DelimSpan.{DelimSpan}
-use Rattle.token_core.specs.declared.token.Paren.{Paren}
-use Rattle.token_core.specs.declared.tree.Delimiter.TheVariants.{Parenthesis}
-use Rattle.token_core.specs.declared.tree.Ident.{Ident}
 use Rattle.token_core.specs.Groups as groups
-use Rattle.token_core.specs.Lifetimes.{sees_lifetime, read_lifetime}
-use Rattle.token_core.specs.Listed.{AreListed, Anywhere}
-use Rattle.token_core.specs.Loops.{Many}
-use Rattle.token_core.specs.Reads.{Reader, any_text, here, ident_name, in_group, leaves, pure, read_word, sees_group, sees_word}
-use Rattle.token_core.specs.Rebuilt.{Visible}
-use Rattle.token_core.specs.Spellings.{IsMark, IsWord, IsLifetime}
-use Rattle.token_core.specs.Stream.{Stream}
 use Rattle.token_core.specs.Tokens as token
-use Rattle.token_core.specs.Toks.{Toks, done, word, group}
 use Rattle.token_core.proofs.Listings.{listed_sound, listed_visible}
 use Rattle.token_core.proofs.MarkSpells.{mark_sound, mark_visible}
 use Rattle.token_core.proofs.Took.{branch, mapped, took_word}
 use Rattle.token_core.proofs.Turns.{chain, same_pair}
 use Rattle.syn_path.proofs.Words.{TookOne}
-use Rattle.syn_forms.specs.declared.places.BoundPlace.{BoundPlace}
-use Rattle.syn_forms.specs.declared.places.ParamPlace.TheVariants.{Binder}
-use Rattle.syn_forms.specs.lists.Reading.{list}
-use Rattle.syn_forms.specs.paths.Reading.{is_named_word}
-use Rattle.syn_forms.specs.places.Reading.{allows_const, allows_capture}
+use Rattle.syn_forms.specs.places.Reading.{allows_capture}
 use Rattle.syn_forms.specs.tokens.Choices.{none_of, a_gt, a_lifetime, an_ident}
-use Rattle.syn_forms.specs.verbatim.Reading.{refuse_since}
 use Rattle.syn_forms.proofs.tokens_laws.Fronts.{took_as, took_whole}
-use Rattle.syn_ty.specs.declared.generics.CapturedParam.{CapturedParam}
 use Rattle.syn_ty.specs.declared.generics.CapturedParam.TheVariants as c
-use Rattle.syn_ty.specs.declared.generics.PreciseCapture.{PreciseCapture}
-use Rattle.syn_ty.specs.declared.generics.TraitBoundOf.{out-roll-TraitBoundOf}
-use Rattle.syn_ty.specs.declared.generics.TraitBoundModifiers.{TraitBoundModifiers}
 use Rattle.syn_ty.specs.declared.generics.TypeParamBoundOf.TheVariants as b
-use Rattle.syn_ty.specs.generics.Bounds.{IsCaptured, a_lifetime_captured, a_name_captured, IsCapture, a_capture, IsTraitBound, a_trait_bound, IsBound, a_lifetime_bound, a_bare_bound, a_bound_in_parens, a_capture_bound}
-use Rattle.syn_ty.specs.generics.Params.{capture_of, held_bound, held_layer, trait_bound_of}
+use Rattle.syn_ty.specs.generics.Params.{capture_of, held_layer}
 use Rattle.syn_ty.specs.generics.Reading as reading
-use Rattle.syn_ty.specs.generics.Reading.{captured_comma, captured_or, listed_captured, sees_captured_ident, trait_in}
-use Rattle.syn_ty.specs.ty.Parts.{Manner, loosely, End, closed, Parts}
-use Rattle.syn_ty.specs.ty.Points.{Readers}
-use Rattle.syn_ty.specs.ty.Trees.{BoundLifetimes, Path, TraitBound, TypeParamBound}
+use Rattle.syn_ty.specs.generics.Reading.{captured_or, sees_captured_ident}
 use Rattle.syn_ty.proofs.ty_laws.sound.Leaves.{IsHeld, comma_seen, comma_took, held_sound, life_sound, named_sound, twice}
 use Rattle.syn_ty.proofs.ty_laws.sound.Forms.{Told, never_open}
 use Rattle.syn_ty.proofs.ty_laws.sound.Traits.{trait_in_took}

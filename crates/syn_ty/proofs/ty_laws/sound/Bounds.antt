@@ -1,21 +1,15 @@
 -- Where bounds joined by `+` are read, they are spelt, one that a `+` follows is not open, and where the last is open no `+` follows.
 use Rattle.std.proofs.Common.{◌≡◌, ℕ, zero, suc, Bool, true, false, [], ◌∷◌, None, Ok, inl, inr, refl, sym, ◌∙◌, subst, arith, not, ◌||◌}
-use Rattle.token_core.specs.Loops.{Many, size, listed_from, listed}
-use Rattle.token_core.specs.Reads.{Reader, any_text, sees_word}
-use Rattle.token_core.specs.Rebuilt.{Visible}
-use Rattle.token_core.specs.Stream.{Stream}
+use Rattle.syn_ty.proofs.ty_laws.words.Tokens.{Many, size, listed_from, listed, Reader, any_text, sees_word, Visible, Stream, Toks}
+use Rattle.syn_ty.proofs.ty_laws.words.Forms.{BoundPlace, sees_bound, stops_bound}
+use Rattle.syn_ty.proofs.ty_laws.words.Types.{AreBounds, no_bounds, last_plus, last_bound, bound_and_plus, Manner, loosely, closed, going_on, Parts, TypeParamBound}
 use Rattle.token_core.specs.Tokens as token
-use Rattle.token_core.specs.Toks.{Toks}
 use Rattle.token_core.proofs.Listings.{listed_visible}
 use Rattle.token_core.proofs.MarkSpells.{mark_sound, mark_visible}
 use Rattle.token_core.proofs.Took.{branch}
 use Rattle.token_core.proofs.Turns.{chain, same_pair}
 use Rattle.syn_path.proofs.Words.{TookOne}
-use Rattle.syn_forms.specs.declared.places.BoundPlace.{BoundPlace}
-use Rattle.syn_forms.specs.lists.Reading.{sees_bound, stops_bound}
-use Rattle.syn_ty.specs.generics.Bounds.{AreBounds, no_bounds, last_plus, last_bound, bound_and_plus}
-use Rattle.syn_ty.specs.ty.Parts.{Manner, loosely, closed, after_plus, going_on, Parts}
-use Rattle.syn_ty.specs.ty.Trees.{TypeParamBound}
+use Rattle.syn_ty.specs.ty.Parts.{after_plus}
 use Rattle.syn_ty.proofs.ty_laws.sound.Forms.{Told, never_open, before_plus}
 
 -- ---- a list that goes on at each `+`

@@ -1,25 +1,14 @@
 -- Where a macro call is read after its path, which was read in the style of types and has no arguments, it is spelt by the words of that path.
 use Rattle.std.proofs.Common.{◌≡◌, Bool, true, false, ◌&&◌, List, [], ◌∷◌, Option, Some, Ok, refl, sym, ◌∙◌, ap, subst, arith, map}
 use Rattle.std.specs.List.{list_all}
-use Rattle.token_core.specs.Listed.{AreListed, none_left, last_value, value_and_mark, Nowhere}
-use Rattle.token_core.specs.Rebuilt.{Visible}
-use Rattle.token_core.specs.Spellings.{IsMark, is_mark, last_char, more_chars}
-use Rattle.token_core.specs.Stream.{Stream}
-use Rattle.token_core.specs.Toks.{Toks}
+use Rattle.syn_ty.proofs.ty_laws.words.Tokens.{AreListed, none_left, last_value, value_and_mark, Nowhere, Visible, IsMark, is_mark, last_char, more_chars, Stream, Toks}
+use Rattle.syn_ty.proofs.ty_laws.words.Paths.{Macro, AsWritten, macro_of, IsLeading, no_leading, leading, AreSegments, last_segment, more_segments, IsBarePath, a_bare_path}
+use Rattle.syn_ty.proofs.ty_laws.words.Types.{Sep, is_none, nothing, segment_of, without, is_mod_style, is_segment_word, IsSegment, a_word, a_word_with_arguments, IsPath, a_path, Manner, loosely, Parts, IsOptional, absent, present, Path, PathArguments, PathSegment}
 use Rattle.token_core.proofs.MarkSpells.{mark_sound, mark_visible}
 use Rattle.token_core.proofs.Turns.{chain, same_pair}
-use Rattle.syn_path.specs.declared.mac.Macro.{Macro}
-use Rattle.syn_path.specs.declared.path.PathStyle.TheVariants.{AsWritten}
-use Rattle.syn_path.specs.mac.Macros.{macro_of}
 use Rattle.syn_path.specs.mac.Reading as macs
-use Rattle.syn_path.specs.path.Spelling.{IsLeading, no_leading, leading, AreSegments, last_segment, more_segments, IsBarePath, a_bare_path}
 use Rattle.syn_path.proofs.mac_laws.Sound.{took_body}
-use Rattle.syn_ty.specs.path.Paths.{ModPath, Sep, is_none, nothing, segment_of, without}
-use Rattle.syn_ty.specs.path.Reading.{is_mod_style}
-use Rattle.syn_ty.specs.path.Spelling.{is_segment_word, IsSegment, a_word, a_word_with_arguments, IsPath, a_path}
-use Rattle.syn_ty.specs.ty.Parts.{Manner, loosely, Parts}
-use Rattle.syn_ty.specs.ty.Spelling.{IsOptional, absent, present}
-use Rattle.syn_ty.specs.ty.Trees.{Path, PathArguments, PathSegment}
+use Rattle.syn_ty.specs.path.Paths.{ModPath}
 use Rattle.syn_ty.proofs.ty_laws.sound.Paths.{and_first}
 use Rattle.syn_ty.proofs.ty_laws.sound.Forms.{both}
 

@@ -1,39 +1,20 @@
 -- Where a type that begins with `dyn` or `impl` is read, with plus or without, it is spelt by the rules of the whole grammar; `dyn *` is held verbatim.
 use Rattle.std.proofs.Common.{◌≡◌, Bool, true, false, [], ◌∷◌, Option, Some, None, Ok, inl, inr, refl, subst, arith}
 use Rattle.std.specs.List.{list_any}
+use Rattle.syn_ty.proofs.ty_laws.words.Tokens.{Span, TokenStream, AfterMark, Many, listed, Reader, ◌>>=◌, Follows, here, pure, Visible, IsMark, IsWord, Stream, Toks}
+use Rattle.syn_ty.proofs.ty_laws.words.Paths.{Along}
+use Rattle.syn_ty.proofs.ty_laws.words.Forms.{Object, Opaque, TypePlace, stops_bound, allows_plus, position, refuse_since, since}
+use Rattle.syn_ty.proofs.ty_laws.words.Types.{AreBounds, IsVerbatimType, a_dyn_star, IsType, an_object_with_dyn, a_verbatim_type, IsBoundList, several_bounds, one_bound, AreObjectBounds, IsDyn, a_dyn, IsImpl, an_impl, Manner, loosely, End, Holds, Parts, Point, Readers, a_bound, is_trait, IsOptional, absent, present, TypeImplTrait, TypeParamBound, TypeTraitObject, TypeTree, impl_trait_with, trait_object_with}
 use Rattle.token_core.specs.declared.error.ErrorKind.TheVariants.{NoTraitInImpl}
-use Rattle.token_core.specs.declared.span.Span.{Span}
-use Rattle.token_core.specs.Trees.{TokenStream}
-use Rattle.token_core.specs.Listed.{AfterMark}
-use Rattle.token_core.specs.Loops.{Many, listed}
-use Rattle.token_core.specs.Reads.{Reader, ◌>>=◌, Follows, here, pure}
-use Rattle.token_core.specs.Rebuilt.{Visible}
-use Rattle.token_core.specs.Spellings.{IsMark, IsWord}
-use Rattle.token_core.specs.Stream.{Stream}
 use Rattle.token_core.specs.Tokens as token
-use Rattle.token_core.specs.Toks.{Toks}
 use Rattle.token_core.proofs.MarkSpells.{mark_sound, mark_visible}
 use Rattle.token_core.proofs.Suffixes.{follows_trans}
 use Rattle.token_core.proofs.Took.{branch, mapped}
 use Rattle.token_core.proofs.Turns.{chain, same_pair}
 use Rattle.syn_path.proofs.Words.{TookOne}
-use Rattle.syn_forms.specs.declared.places.BoundPlace.TheVariants.{Object, Opaque}
-use Rattle.syn_forms.specs.declared.places.TypePlace.{TypePlace}
-use Rattle.syn_forms.specs.lists.Reading.{stops_bound}
-use Rattle.syn_forms.specs.places.Reading.{allows_plus}
-use Rattle.syn_forms.specs.verbatim.Reading.{position, refuse_since, since}
 use Rattle.syn_forms.proofs.tokens_laws.Fronts.{plainly, took_as}
 use Rattle.syn_ty.specs.declared.ty.TypeOf.TheVariants as tree
-use Rattle.syn_ty.specs.generics.Bounds.{AreBounds}
-use Rattle.syn_ty.specs.ty.Admitted.{IsVerbatimType, a_dyn_star, IsType, an_object_with_dyn, a_verbatim_type}
-use Rattle.syn_ty.specs.ty.Objects.{IsBoundList, several_bounds, one_bound, AreObjectBounds, IsDyn, a_dyn, IsImpl, an_impl}
-use Rattle.syn_ty.specs.ty.Parts.{Manner, loosely, End, Holds, Parts}
-use Rattle.syn_ty.specs.ty.Points.{Point, Readers, a_bound}
 use Rattle.syn_ty.specs.ty.Reading as reading
-use Rattle.syn_ty.specs.ty.Reading.{is_trait}
-use Rattle.syn_ty.specs.ty.Spelling.{IsOptional, absent, present}
-use Rattle.syn_ty.specs.ty.Trees.{TypeImplTrait, TypeParamBound, TypeTraitObject, TypeTree}
-use Rattle.syn_ty.specs.ty.Types.{impl_trait_with, trait_object_with}
 use Rattle.syn_path.proofs.Along.{named}
 use Rattle.syn_ty.proofs.ty_laws.sound.AlongTypes.{object_bounds_along, optional_star_along}
 use Rattle.syn_ty.proofs.ty_laws.sound.Bounds.{bounds_took, word_ends}
@@ -41,7 +22,6 @@ use Rattle.syn_ty.proofs.ty_laws.sound.Held.{holds_since}
 use Rattle.syn_ty.proofs.ty_laws.sound.Objects.{objects_took}
 use Rattle.syn_ty.proofs.ty_laws.sound.Leaves.{named_sound, optional_sound}
 use Rattle.syn_ty.proofs.ty_laws.sound.Forms.{Told}
-use Rattle.syn_path.specs.Took.{Along}
 
 -- ---- `impl`: one of the bounds names a trait
 

@@ -1,22 +1,13 @@
 -- Where bounds go on after a first one that was read before, what follows it is spelt: nothing, where no `+` stands, or a `+` and further bounds, up to where they may end.
 use Rattle.std.proofs.Common.{◌≡◌, Bool, true, false, [], ◌∷◌, None, Ok, ◌⊎◌, inl, inr, refl, sym, ◌∙◌, arith}
-use Rattle.token_core.specs.Loops.{Many, listed}
-use Rattle.token_core.specs.Reads.{any_text, sees_word}
-use Rattle.token_core.specs.Rebuilt.{Visible}
-use Rattle.token_core.specs.Spellings.{IsMark}
-use Rattle.token_core.specs.Stream.{Stream}
+use Rattle.syn_ty.proofs.ty_laws.words.Tokens.{Many, listed, any_text, sees_word, Visible, IsMark, Stream, Toks}
+use Rattle.syn_ty.proofs.ty_laws.words.Forms.{Object, list_from}
+use Rattle.syn_ty.proofs.ty_laws.words.Types.{AreBounds, Manner, loosely, Parts, Readers, a_bound, TypeParamBound}
 use Rattle.token_core.specs.Tokens as token
-use Rattle.token_core.specs.Toks.{Toks}
 use Rattle.token_core.proofs.MarkSpells.{mark_sound, mark_visible}
 use Rattle.token_core.proofs.Took.{branch, mapped}
 use Rattle.token_core.proofs.Turns.{chain, same_pair}
 use Rattle.syn_path.proofs.Words.{TookOne}
-use Rattle.syn_forms.specs.declared.places.BoundPlace.TheVariants.{Object}
-use Rattle.syn_forms.specs.lists.Reading.{list_from}
-use Rattle.syn_ty.specs.generics.Bounds.{AreBounds}
-use Rattle.syn_ty.specs.ty.Parts.{Manner, loosely, Parts}
-use Rattle.syn_ty.specs.ty.Points.{Readers, a_bound}
-use Rattle.syn_ty.specs.ty.Trees.{TypeParamBound}
 use Rattle.syn_ty.proofs.ty_laws.sound.Bounds.{bounds_took}
 use Rattle.syn_ty.proofs.ty_laws.sound.Forms.{Told}
 

@@ -1,38 +1,16 @@
 -- What a type in parentheses that may be the first bound of a trait object spells: a path, or `?` and a path in parentheses; and what begins with `?` as a trait bound.
 use Rattle.std.proofs.Common.{◌≡◌, Bool, true, false, List, [], ◌∷◌, Option, Some, None, refl, sym, ◌∙◌, ap, subst}
-use Rattle.token_core.specs.declared.span.DelimSpan.{DelimSpan}
-use Rattle.token_core.specs.declared.tree.Delimiter.TheVariants.{Parenthesis}
+use Rattle.syn_ty.proofs.ty_laws.words.Tokens.{DelimSpan, Parenthesis, sees_lifetime, AreListed, none_left, last_value, value_and_mark, Nowhere, Many, IsMark, is_mark, more_chars, is_word, Toks, done, group}
+use Rattle.syn_ty.proofs.ty_laws.words.Paths.{AsWritten}
+use Rattle.syn_ty.proofs.ty_laws.words.Forms.{Plus}
+use Rattle.syn_ty.proofs.ty_laws.words.Types.{out-roll-TraitBoundOf, TraitBoundModifiers, out-roll-TypePathOf, no_constness, a_const, a_conditional_const, AreModifiers, some_modifiers, IsFor, IsTrait, IsTraitBound, a_trait_bound, a_trait, a_trait_for, a_trait_asked, no_modifiers, held_bound, named_bound, trait_bound_of, a_binder, Sep, AreSigned, IsBoundPath, a_signed, signed_after, signed_last, with_parens, without_parens, IsAnyPath, IsPath, IsSegment, a_path, a_word, a_word_with_arguments, qualified, unqualified, IsType, a_path_type, a_macro, a_bound_macro, an_object_with_dyn, an_object_without_dyn, an_impl_type, a_fn_type, a_ptr_type, a_reference_type, a_paren_type, a_tuple_type, a_slice_type, an_array_type, an_infer_type, a_never_type, a_verbatim_type, AreBareBounds, AreFurther, IsAsked, IsDyn, IsFirst, a_dyn, a_first, an_asked, asked_first, asked_in_two, held_and_plus, in_parens, lifetime_first, none_further, path_alone, path_and_plus, some_further, Manner, loosely, End, Parts, first_bound, object_of, unqualified_layer, IsOptional, absent, present, BoundLifetimes, Path, PathSegment, QSelf, TraitBound, TypeParamBound, TypeTraitObject, TypeTree, qualified_with, trait_object_with}
 use Rattle.token_core.specs.Groups as groups
-use Rattle.token_core.specs.Lifetimes.{sees_lifetime}
-use Rattle.token_core.specs.Listed.{AreListed, none_left, last_value, value_and_mark, Nowhere}
-use Rattle.token_core.specs.Loops.{Many}
-use Rattle.token_core.specs.Spellings.{IsMark, is_mark, more_chars, is_word}
 use Rattle.token_core.specs.Tokens as token
-use Rattle.token_core.specs.Toks.{Toks, done, group}
 use Rattle.token_core.proofs.Unseen.{no_mark-other, no_mark-word}
-use Rattle.syn_path.specs.declared.path.PathStyle.TheVariants.{AsWritten}
-use Rattle.syn_forms.specs.declared.places.TypePlace.TheVariants.{Plus}
-use Rattle.syn_ty.specs.declared.generics.TraitBoundOf.{out-roll-TraitBoundOf}
-use Rattle.syn_ty.specs.declared.generics.TraitBoundModifiers.{TraitBoundModifiers}
 use Rattle.syn_ty.specs.declared.generics.TypeParamBoundOf.TheVariants as b
 use Rattle.syn_ty.specs.declared.ty.TypeOf.TheVariants as v
-use Rattle.syn_ty.specs.declared.ty.TypePathOf.{out-roll-TypePathOf}
-use Rattle.syn_ty.specs.generics.Bounds.{no_constness, a_const, a_conditional_const, AreModifiers, some_modifiers, IsFor, IsTrait, IsTraitBound, a_trait_bound, a_trait, a_trait_for, a_trait_asked}
-use Rattle.syn_ty.specs.generics.Modifiers.{no_modifiers}
 use Rattle.syn_ty.specs.generics.Params as params
-use Rattle.syn_ty.specs.generics.Params.{held_bound, named_bound, trait_bound_of}
-use Rattle.syn_ty.specs.generics.Spelling.{a_binder}
-use Rattle.syn_ty.specs.path.Paths.{Sep}
-use Rattle.syn_ty.specs.path.Signed.{AreSigned, IsBoundPath, a_signed, signed_after, signed_last, with_parens, without_parens}
-use Rattle.syn_ty.specs.path.Spelling.{IsAnyPath, IsPath, IsSegment, a_path, a_word, a_word_with_arguments, qualified, unqualified}
-use Rattle.syn_ty.specs.ty.Admitted.{IsType, a_path_type, a_macro, a_bound_macro, an_object_with_dyn, an_object_without_dyn, an_impl_type, a_fn_type, a_ptr_type}
-use Rattle.syn_ty.specs.ty.Admitted.{a_reference_type, a_paren_type, a_tuple_type, a_slice_type, an_array_type, an_infer_type, a_never_type, a_verbatim_type}
-use Rattle.syn_ty.specs.ty.Objects.{AreBareBounds, AreFurther, IsAsked, IsDyn, IsFirst, a_dyn, a_first, an_asked, asked_first, asked_in_two, held_and_plus, in_parens, lifetime_first, none_further, path_alone, path_and_plus, some_further}
-use Rattle.syn_ty.specs.ty.Parts.{Manner, loosely, End, Parts}
-use Rattle.syn_ty.specs.ty.Reading.{first_bound, lone_bound, object_of, unqualified_layer}
-use Rattle.syn_ty.specs.ty.Spelling.{IsOptional, absent, present}
-use Rattle.syn_ty.specs.ty.Trees.{BoundLifetimes, Path, PathSegment, QSelf, TraitBound, TypeParamBound, TypeTraitObject, TypeTree}
-use Rattle.syn_ty.specs.ty.Types.{qualified_with, trait_object_with}
+use Rattle.syn_ty.specs.ty.Reading.{lone_bound}
 use Rattle.syn_ty.proofs.ty_laws.Kinds as kinds
 use Rattle.syn_ty.proofs.ty_laws.sound.Forms.{both}
 

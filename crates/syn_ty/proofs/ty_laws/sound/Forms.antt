@@ -1,43 +1,25 @@
 -- Where the read of a form answers, the answer spells what was taken by the rules of the whole grammar; where it is open no `+` follows, and where it ends in a plus no word: over the same law of what it holds.
 use Rattle.std.proofs.Common.{◌≡◌, Bool, true, false, List, Option, Some, None, Ok, inl, inr, refl, sym, ◌∙◌, ap, subst, arith}
-use Rattle.token_core.specs.declared.lifetime.Lifetime.{Lifetime}
-use Rattle.token_core.specs.declared.tree.Delimiter.TheVariants.{Parenthesis, Bracket}
+use Rattle.syn_ty.proofs.ty_laws.words.Tokens.{Lifetime, Parenthesis, Bracket, sees_lifetime, read_lifetime, AreListed, none_left, last_value, value_and_mark, Reader, in_group, leaves, optional, Visible, IsMark, IsWord, IsLifetime, Stream, Toks, done}
+use Rattle.syn_ty.proofs.ty_laws.words.Forms.{BoundPlace, TypePlace, Plus, NoPlus, PointerMutability, IsMutability}
+use Rattle.syn_ty.proofs.ty_laws.words.Types.{AreBounds, no_bounds, last_plus, last_bound, bound_and_plus, return_of, IsReturn, no_output, an_output, IsPointer, a_pointer, IsBorrow, a_borrow, a_mutable_borrow, a_lifetime_borrow, IsEnclosed, enclosed, IsBracketed, bracketed, Manner, loosely, End, closed, going_on, Parts, Readers, a_type, Relation, IsOptional, absent, present, ReturnType, TypeParamBound, TypeParen, TypePtr, TypeReference, TypeSlice, TypeTree, And, Mut, Star, paren_of, ptr_of, reference_of, slice_of}
 use Rattle.token_core.specs.Groups as groups
-use Rattle.token_core.specs.Lifetimes.{sees_lifetime, read_lifetime, read_optional_lifetime}
-use Rattle.token_core.specs.Listed.{AreListed, none_left, last_value, value_and_mark}
+use Rattle.token_core.specs.Lifetimes.{read_optional_lifetime}
 use Rattle.token_core.specs.Marks as marks
-use Rattle.token_core.specs.Reads.{Reader, in_group, leaves, optional}
-use Rattle.token_core.specs.Rebuilt.{Visible}
-use Rattle.token_core.specs.Spellings.{IsMark, IsWord, IsLifetime}
-use Rattle.token_core.specs.Stream.{Stream}
 use Rattle.token_core.specs.Tokens as token
-use Rattle.token_core.specs.Toks.{Toks, done}
 use Rattle.token_core.proofs.MarkSpells.{mark_sound, mark_visible, mark_seen}
 use Rattle.token_core.proofs.Took.{branch, mapped}
 use Rattle.token_core.proofs.Turns.{chain}
 use Rattle.syn_path.proofs.Words.{TookOne}
-use Rattle.syn_forms.specs.declared.places.BoundPlace.{BoundPlace}
-use Rattle.syn_forms.specs.declared.places.TypePlace.{TypePlace}
-use Rattle.syn_forms.specs.declared.places.TypePlace.TheVariants.{Plus, NoPlus}
-use Rattle.syn_forms.specs.declared.tokens.PointerMutability.{PointerMutability}
 use Rattle.syn_forms.specs.forms.Reading as forms
 use Rattle.syn_forms.specs.heads.Reading as heads
 use Rattle.syn_forms.specs.tokens.Reading as tokens
 use Rattle.syn_forms.specs.tokens.Reading.{sees_named, mutable}
-use Rattle.syn_forms.specs.tokens.Spelling.{IsMutability}
 use Rattle.syn_forms.proofs.tokens_laws.Fronts.{took_as, took_whole}
 use Rattle.syn_forms.proofs.tokens_laws.Mutability.{mutability_sound, visible_mutability}
-use Rattle.syn_ty.specs.generics.Bounds.{AreBounds, no_bounds, last_plus, last_bound, bound_and_plus}
-use Rattle.syn_ty.specs.path.Reading.{return_of}
-use Rattle.syn_ty.specs.path.Signed.{IsReturn, no_output, an_output}
-use Rattle.syn_ty.specs.ty.Admitted.{IsPointer, a_pointer, IsBorrow, a_borrow, a_mutable_borrow, a_lifetime_borrow, IsEnclosed, enclosed, IsBracketed, bracketed}
-use Rattle.syn_ty.specs.ty.Parts.{Manner, loosely, End, closed, after_plus, going_on, Parts}
+use Rattle.syn_ty.specs.ty.Parts.{after_plus}
 pub use Rattle.syn_ty.specs.ty.Parts.{Told}
-use Rattle.syn_ty.specs.ty.Points.{Readers, a_type}
 use Rattle.syn_ty.specs.ty.Reading as reading
-use Rattle.syn_ty.specs.ty.Spelling.{Relation, IsOptional, absent, present}
-use Rattle.syn_ty.specs.ty.Trees.{ReturnType, TypeParamBound, TypeParen, TypePtr, TypeReference, TypeSlice, TypeTree}
-use Rattle.syn_ty.specs.ty.Types.{And, Mut, Star, paren_of, ptr_of, reference_of, slice_of}
 use Rattle.syn_ty.proofs.ty_laws.sound.Leaves.{optional_sound, named_sound, life_sound, IsHeld, held_sound, twice}
 
 -- what is closed is not open, and does not end in a plus

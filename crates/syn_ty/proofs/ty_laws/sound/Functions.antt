@@ -2,28 +2,16 @@
 use Rattle.std.proofs.lemmas.Slice.Eq.{bytes_eq-Decides}
 use Rattle.std.specs.Prelude.{option_map}
 use Rattle.std.proofs.Common.{◌≡◌, ℕ, zero, suc, Bool, true, false, not, ◌&&◌, ◌||◌, if◌then◌else◌, List, ◌∷◌, Option, Some, None, Ok, Err, inl, inr, refl, sym, ◌∙◌, ap, subst, arith}
-use Rattle.token_core.specs.declared.lit.LitStr.{LitStr}
-use Rattle.token_core.specs.declared.mark.Spans.{Spans}
-use Rattle.token_core.specs.declared.span.DelimSpan.{DelimSpan}
-use Rattle.token_core.specs.declared.token.Paren.{Paren}
-use Rattle.token_core.specs.declared.tree.Delimiter.TheVariants.{Parenthesis}
-use Rattle.token_core.specs.declared.tree.Ident.{Ident}
-use Rattle.token_core.specs.declared.word.Word.{Word}
-use Rattle.token_core.specs.Front.{front}
+use Rattle.syn_ty.proofs.ty_laws.words.Tokens.{LitStr, Spans, DelimSpan, Paren, Parenthesis, Ident, Word, front, AreListed, none_left, last_value, value_and_mark, Anywhere, sees_str, Many, size, Reader, Outcome, Follows, after_one, and_then, any_text, as_word, expected, ident_name, in_group, is_done, is_ident, is_text, leaves, next_word, optional, past_mark, pure, read_word, second, sees_word, Visible, Refusal, IsMark, IsWord, is_word, IsStr, Stream, Bytes, Toks, done, word, group, TokenStream, ident}
+use Rattle.syn_ty.proofs.ty_laws.words.Paths.{ReadValues, Along}
+use Rattle.syn_ty.proofs.ty_laws.words.Forms.{Binder, Plus, NoPlus, sees_mut_self, sees_name, position, since}
+use Rattle.syn_ty.proofs.ty_laws.words.Types.{Abi, IsFor, optional_binder, IsReturn, IsAbi, an_abi, is_name, is_argument_name, IsMutSelf, mut_self, mut_self_typed, named_mut_self, IsNamedArg, a_named_argument, a_verbatim_argument, IsVariadic, dots, named_dots, AreInputs, plain_inputs, variadic_inputs, IsFnPtr, a_fn_ptr, Manner, loosely, Parts, Holds, AreMarked, no_further, one_further, Readers, a_type, IsOptional, absent, present, BoundLifetimes, NamedArg, ReturnType, TypeFnPtr, TypeTree, named_arg_of}
 use Rattle.token_core.specs.Groups as groups
-use Rattle.token_core.specs.Listed.{AreListed, none_left, last_value, value_and_mark, Anywhere}
-use Rattle.token_core.specs.Lits.{sees_str, read_str}
-use Rattle.token_core.specs.Loops.{Many, size}
+use Rattle.token_core.specs.Lits.{read_str}
 use Rattle.token_core.specs.Marks as marks
 use Rattle.token_core.specs.Marks.{chars_of, mark_name, mark_of, word_of}
-use Rattle.token_core.specs.Reads.{Reader, Outcome, Follows, after_one, and_then, any_text, as_word, expected, goes_on, ident_name, in_group, is_done, is_ident, is_text, leaves, next_word, optional, past, past_mark, pure, read_mark, read_word, second, sees_word, word_if, word_meets}
-use Rattle.token_core.specs.Rebuilt.{Visible}
-use Rattle.token_core.specs.Refusal.{Refusal}
-use Rattle.token_core.specs.Spellings.{IsMark, IsWord, is_word, IsStr}
-use Rattle.token_core.specs.Stream.{Stream}
+use Rattle.token_core.specs.Reads.{goes_on, past, read_mark, word_if, word_meets}
 use Rattle.token_core.specs.Tokens as token
-use Rattle.token_core.specs.Toks.{Bytes, Toks, done, word, group}
-use Rattle.token_core.specs.Trees.{TokenStream, ident}
 use Rattle.token_core.proofs.LitSpells.{str_sound, str_visible}
 use Rattle.token_core.proofs.MarkSpells.{mark_sound, mark_visible}
 use Rattle.token_core.proofs.Suffixes.{follows_past, follows_self, follows_trans, follows_word, suffix_mark}
@@ -31,33 +19,19 @@ use Rattle.token_core.proofs.Took.{branch, mapped, seen_word, took_all, took_wor
 use Rattle.token_core.proofs.Turns.{chain, same_pair}
 use Rattle.token_core.proofs.WordSpells.{word_sound, word_visible}
 use Rattle.syn_path.proofs.Words.{TookOne}
-use Rattle.syn_path.specs.Values.{ReadValues}
-use Rattle.syn_forms.specs.declared.places.ParamPlace.TheVariants.{Binder}
-use Rattle.syn_forms.specs.declared.places.TypePlace.TheVariants.{Plus, NoPlus}
 use Rattle.syn_forms.specs.heads.Reading as heads
 use Rattle.syn_forms.specs.inputs.Reading as inputs
-use Rattle.syn_forms.specs.inputs.Reading.{Name, sees_ident_or_underscore, sees_mut_self, sees_name, is_other}
-use Rattle.syn_forms.specs.verbatim.Reading.{position, since}
+use Rattle.syn_forms.specs.inputs.Reading.{Name, sees_ident_or_underscore, is_other}
 use Rattle.syn_forms.proofs.tokens_laws.Fronts.{nothing_left, plainly, took_as}
-use Rattle.syn_ty.specs.declared.ty.Abi.{Abi}
 use Rattle.syn_ty.specs.declared.ty.TypeOf.TheVariants as form
-use Rattle.syn_ty.specs.generics.Bounds.{IsFor}
-use Rattle.syn_ty.specs.generics.Reading.{optional_binder}
-use Rattle.syn_ty.specs.path.Signed.{IsReturn}
-use Rattle.syn_ty.specs.ty.Functions.{IsAbi, an_abi, is_name, is_argument_name, IsMutSelf, mut_self, mut_self_typed, named_mut_self, IsNamedArg, an_argument, a_named_argument, a_verbatim_argument, IsVariadic, dots, named_dots, AreInputs, plain_inputs, variadic_inputs, IsFnPtr, a_fn_ptr}
-use Rattle.syn_ty.specs.ty.Parts.{Manner, loosely, Parts, Holds, AreMarked, no_further, one_further}
-use Rattle.syn_ty.specs.ty.Points.{Readers, a_type}
+use Rattle.syn_ty.specs.ty.Functions.{an_argument}
 use Rattle.syn_ty.specs.ty.Reading as reading
 use Rattle.syn_ty.specs.ty.Reading.{abi_of, dots_of, fn_ptr_by}
-use Rattle.syn_ty.specs.ty.Spelling.{IsOptional, absent, present}
-use Rattle.syn_ty.specs.ty.Trees.{BoundLifetimes, NamedArg, ReturnType, TypeFnPtr, TypeTree}
-use Rattle.syn_ty.specs.ty.Types.{named_arg_of}
 use Rattle.syn_ty.proofs.generics_laws.Sound.{optional_took}
 use Rattle.syn_ty.proofs.ty_laws.sound.Held.{holds_since}
 use Rattle.syn_ty.proofs.ty_laws.sound.Paths.{and_first}
 use Rattle.syn_ty.proofs.ty_laws.sound.Leaves.{IsHeld, held_sound, named_sound, optional_sound}
 use Rattle.syn_ty.proofs.ty_laws.sound.Forms.{Told, both, output_took}
-use Rattle.syn_path.specs.Took.{Along}
 use Rattle.syn_ty.proofs.ty_laws.sound.Within.{Held, Supplied}
 
 -- ---- single tokens stand further on

@@ -1,50 +1,28 @@
 -- A type read at an invisible group is what the grammar says, and took what it spells: where no other such group stands in it or after it, or it is all that another one holds.
 use Rattle.std.proofs.Common.{◌≡◌, ℕ, zero, suc, ◌≤◌, Bool, true, false, not, ◌&&◌, List, [], ◌∷◌, ◌++◌, Option, Some, None, Ok, Err, Result, inl, inr, refl, sym, ◌∙◌, ap, subst, arith, length, length-append}
 use Rattle.std.specs.Prelude.{nat_eq}
-use Rattle.token_core.specs.declared.span.DelimSpan.{DelimSpan}
-use Rattle.token_core.specs.declared.token.GroupToken.{GroupToken}
-use Rattle.token_core.specs.Groups.{group_token, invisible_at, is_there, next_invisible, open_invisible, sees_invisible}
-use Rattle.token_core.specs.Listed.{AreListed, none_left, last_value, value_and_mark, Nowhere}
-use Rattle.token_core.specs.Loops.{Many, listed, listed_from, never, size}
-use Rattle.token_core.specs.Reads.{Outcome, Reader, Reads, closing, finished, first_of, inside, leaves, optional, past, pure, ◌>>=◌}
-use Rattle.token_core.specs.Rebuilt.{Visible}
-use Rattle.token_core.specs.Refusal.{Refusal}
-use Rattle.token_core.specs.Stream.{Stream}
+use Rattle.syn_ty.proofs.ty_laws.words.Tokens.{DelimSpan, GroupToken, sees_invisible, AreListed, none_left, last_value, value_and_mark, Nowhere, Many, listed, listed_from, never, size, Outcome, Reader, Reads, closing, leaves, optional, pure, ◌>>=◌, Visible, Refusal, Stream, Toks, done}
+use Rattle.syn_ty.proofs.ty_laws.words.Paths.{PathStyle, AsWritten, path_of, ReadValues, SpelledValues}
+use Rattle.syn_ty.proofs.ty_laws.words.Forms.{TypePlace, Plus, in_invisible, ahead, goes_on, last_with, longer}
+use Rattle.syn_ty.proofs.ty_laws.words.Types.{out-TypePathOf, out-roll-TypePathOf, Sep, no_arguments, IsPath, a_path, IsQualified, by_type, by_type_as_path, IsAnyPath, unqualified, qualified, IsType, a_path_type, a_macro, a_bound_macro, an_object_with_dyn, an_object_without_dyn, an_impl_type, a_fn_type, a_ptr_type, a_reference_type, a_paren_type, a_tuple_type, a_slice_type, an_array_type, an_infer_type, a_never_type, a_verbatim_type, reads_below, Manner, loosely, End, Parts, Readers, a_type, some_arguments, as_path, spelt_to, Path, PathArguments, PathSegment, QSelf, TypePath, TypeTree, qualified_with}
+use Rattle.token_core.specs.Groups.{group_token, invisible_at, is_there, next_invisible, open_invisible}
+use Rattle.token_core.specs.Reads.{finished, first_of, inside, past}
 use Rattle.token_core.specs.Tokens as token
-use Rattle.token_core.specs.Toks.{Toks, done}
 use Rattle.token_core.proofs.Took.{branch, mapped}
 use Rattle.token_core.proofs.Turns.{chain, same_pair}
 use Rattle.syn_path.proofs.Words.{TookOne, first_parts}
-use Rattle.syn_path.specs.declared.path.PathStyle.{PathStyle}
-use Rattle.syn_path.specs.declared.path.PathStyle.TheVariants.{AsWritten}
-use Rattle.syn_path.specs.path.Paths.{path_of}
 use Rattle.syn_path.specs.path.Reading.{leading}
-use Rattle.syn_path.specs.Values.{ReadValues, SpelledValues}
-use Rattle.syn_forms.specs.declared.places.TypePlace.{TypePlace}
-use Rattle.syn_forms.specs.declared.places.TypePlace.TheVariants.{Plus}
-use Rattle.syn_forms.specs.groups.Reading.{in_invisible}
-use Rattle.syn_forms.specs.nested.Below.{ahead}
 use Rattle.syn_forms.specs.paths.Reading as paths
-use Rattle.syn_forms.specs.paths.Reading.{ends_in_mark, goes_on, last_with, longer, path_with}
+use Rattle.syn_forms.specs.paths.Reading.{ends_in_mark, path_with}
 use Rattle.syn_forms.proofs.nested_laws.Below.{out}
 use Rattle.syn_forms.proofs.tokens_laws.Fronts.{took_whole}
 use Rattle.syn_ty.specs.declared.ty.TypeOf.TheVariants as v
-use Rattle.syn_ty.specs.declared.ty.TypePathOf.{out-TypePathOf, out-roll-TypePathOf}
-use Rattle.syn_ty.specs.path.Paths.{Sep, no_arguments}
 use Rattle.syn_ty.specs.path.Reading as reads
-use Rattle.syn_ty.specs.path.Spelling.{IsPath, a_path, IsQualified, by_type, by_type_as_path, IsAnyPath, unqualified, qualified}
-use Rattle.syn_ty.specs.ty.Admitted.{IsType, a_path_type, a_macro, a_bound_macro, an_object_with_dyn, an_object_without_dyn, an_impl_type, a_fn_type, a_ptr_type, a_reference_type, a_paren_type, a_tuple_type, a_slice_type, an_array_type, an_infer_type, a_never_type, a_verbatim_type}
 use Rattle.syn_ty.specs.ty.Fronts as fronts
 use Rattle.syn_ty.specs.ty.GroupCases as cases
 use Rattle.syn_ty.specs.ty.Groups.{GoesOn, no_further, further, Becomes, segments, qualifies, arguments, alone, IsGrouped, a_group, a_group_in_a_group, InGroups, in_one, in_another, TakesGroup}
 use Rattle.syn_ty.specs.ty.Knot as knot
-use Rattle.syn_ty.specs.ty.Knot.{reads_below}
-use Rattle.syn_ty.specs.ty.Parts.{Manner, loosely, End, Parts}
-use Rattle.syn_ty.specs.ty.Points.{Readers, a_type, some_arguments}
-use Rattle.syn_ty.specs.ty.Reading.{as_path, path_within, qself_in, with_path}
-use Rattle.syn_ty.specs.ty.Spelt.{spelt_to}
-use Rattle.syn_ty.specs.ty.Trees.{Path, PathArguments, PathSegment, QSelf, TypePath, TypeTree}
-use Rattle.syn_ty.specs.ty.Types.{qualified_with}
+use Rattle.syn_ty.specs.ty.Reading.{path_within, qself_in, with_path}
 use Rattle.syn_ty.proofs.ty_laws.sound.Alone.{below, turns}
 use Rattle.syn_ty.proofs.ty_laws.Given.{Given}
 use Rattle.syn_ty.proofs.ty_laws.Groups.{type_group}

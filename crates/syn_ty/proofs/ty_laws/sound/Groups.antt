@@ -1,35 +1,21 @@
 -- Where an array, a slice or a tuple is read, it is spelt by the rules of the whole grammar: what its group holds, over the same law of types and of lengths.
 use Rattle.std.proofs.Common.{◌≡◌, Bool, false, List, None, Ok, inl, inr, refl, sym, ◌∙◌, ap, subst, arith}
-use Rattle.token_core.specs.declared.span.DelimSpan.{DelimSpan}
-use Rattle.token_core.specs.declared.tree.Delimiter.TheVariants.{Parenthesis, Bracket}
+use Rattle.syn_ty.proofs.ty_laws.words.Tokens.{DelimSpan, Parenthesis, Bracket, AreListed, none_left, last_value, value_and_mark, Anywhere, Many, Reader, Follows, in_group, leaves, Visible, IsMark, Stream, Toks, done, group}
+use Rattle.syn_ty.proofs.ty_laws.words.Paths.{ReadValues}
+use Rattle.syn_ty.proofs.ty_laws.words.Forms.{TypePlace, Plus}
+use Rattle.syn_ty.proofs.ty_laws.words.Types.{bracketed, IsCounted, counted, IsElement, an_element, IsTupled, no_element, some_elements, IsType, a_slice_type, an_array_type, Manner, loosely, End, closed, Parts, Readers, a_type, Relation, TypeTree, TypeArray, TypeTuple, Comma, array_of, tuple_of}
 use Rattle.token_core.specs.Groups as groups
-use Rattle.token_core.specs.Listed.{AreListed, none_left, last_value, value_and_mark, Anywhere}
-use Rattle.token_core.specs.Loops.{Many}
-use Rattle.token_core.specs.Reads.{Reader, Follows, in_group, leaves}
-use Rattle.token_core.specs.Rebuilt.{Visible}
-use Rattle.token_core.specs.Spellings.{IsMark}
-use Rattle.token_core.specs.Stream.{Stream}
-use Rattle.token_core.specs.Toks.{Toks, done, group}
 use Rattle.token_core.proofs.MarkSpells.{mark_sound, mark_visible}
 use Rattle.token_core.proofs.Took.{branch, mapped}
 use Rattle.token_core.proofs.Turns.{chain, same_pair}
 use Rattle.syn_path.proofs.Words.{TookOne, first_parts}
-use Rattle.syn_path.specs.Values.{ReadValues}
 use Rattle.syn_forms.specs.declared.groups.InBrackets.{InBrackets}
 use Rattle.syn_forms.specs.declared.groups.InBrackets.TheVariants.{Element, Counted}
-use Rattle.syn_forms.specs.declared.places.TypePlace.{TypePlace}
-use Rattle.syn_forms.specs.declared.places.TypePlace.TheVariants.{Plus}
 use Rattle.syn_forms.specs.groups.Reading as inner
 use Rattle.syn_forms.specs.groups.Reading.{Length}
 use Rattle.syn_forms.specs.tokens.Reading as tokens
 use Rattle.syn_forms.proofs.tokens_laws.Fronts.{took_as, took_whole}
-use Rattle.syn_ty.specs.ty.Admitted.{bracketed, IsCounted, counted, IsElement, an_element, IsTupled, no_element, some_elements, IsType, a_slice_type, an_array_type}
-use Rattle.syn_ty.specs.ty.Parts.{Manner, loosely, End, closed, Parts}
-use Rattle.syn_ty.specs.ty.Points.{Readers, a_type}
 use Rattle.syn_ty.specs.ty.Reading as reading
-use Rattle.syn_ty.specs.ty.Spelling.{Relation}
-use Rattle.syn_ty.specs.ty.Trees.{TypeTree, TypeArray, TypeTuple}
-use Rattle.syn_ty.specs.ty.Types.{Comma, array_of, tuple_of}
 use Rattle.syn_ty.proofs.ty_laws.sound.Leaves as plain
 use Rattle.syn_ty.proofs.ty_laws.sound.Leaves.{IsHeld, held_sound, tuple_content_sound, twice}
 use Rattle.syn_ty.proofs.ty_laws.sound.Forms.{Told, never_open}

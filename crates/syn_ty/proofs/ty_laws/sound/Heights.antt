@@ -1,36 +1,18 @@
 -- Where a turn of types is read over reads of trees of some height, it is spelt by types over trees of the next height: parentheses may hold a trait object that begins with a lifetime, and both are read in one turn.
 use Rattle.std.proofs.Common.{◌≡◌, ℕ, zero, suc, Bool, true, false, List, [], Option, Ok, ap}
-use Rattle.token_core.specs.Loops.{Many}
-use Rattle.token_core.specs.Positions.{Item}
-use Rattle.token_core.specs.Reads.{Reader}
-use Rattle.token_core.specs.Rebuilt.{Visible}
-use Rattle.token_core.specs.Stream.{Stream}
+use Rattle.syn_ty.proofs.ty_laws.words.Tokens.{Many, Item, Reader, Visible, Stream, Toks}
+use Rattle.syn_ty.proofs.ty_laws.words.Paths.{AsWritten, ReadValues, SpelledValues, Along}
+use Rattle.syn_ty.proofs.ty_laws.words.Forms.{TypePlace, Plus, allows_plus}
+use Rattle.syn_ty.proofs.ty_laws.words.Types.{IsFor, binder, is_empty, is_none, maybe_qualified, IsAnyPath, IsType, IsFnPtr, AreBareBounds, IsImpl, Manner, loosely, End, Parts, Readers, Relation, IsOptional, IsPathAlone, a_path_alone, spelt_to, BoundLifetimes, Path, PathArguments, QSelf, TypeFnPtr, TypeImplTrait, TypeParamBound, TypePath, TypeTree, qualified_with}
 use Rattle.token_core.specs.Tokens as token
-use Rattle.token_core.specs.Toks.{Toks}
 use Rattle.token_core.proofs.Took.{mapped}
 use Rattle.syn_path.proofs.Words.{TookOne}
-use Rattle.syn_path.specs.declared.path.PathStyle.TheVariants.{AsWritten}
-use Rattle.syn_path.specs.Values.{ReadValues, SpelledValues}
-use Rattle.syn_forms.specs.declared.places.TypePlace.{TypePlace}
-use Rattle.syn_forms.specs.declared.places.TypePlace.TheVariants.{Plus}
-use Rattle.syn_forms.specs.places.Reading.{allows_plus}
 use Rattle.syn_forms.proofs.tokens_laws.Fronts.{took_as}
 use Rattle.syn_ty.specs.declared.path.PathArgumentsOf.TheVariants as a
-use Rattle.syn_ty.specs.generics.Bounds.{IsFor}
-use Rattle.syn_ty.specs.generics.Reading.{binder}
-use Rattle.syn_ty.specs.path.Paths.{is_empty, is_none, none_layer}
-use Rattle.syn_ty.specs.path.Reading.{maybe_qualified, path_type}
-use Rattle.syn_ty.specs.path.Spelling.{IsAnyPath, some_arguments}
-use Rattle.syn_ty.specs.ty.Admitted.{IsType}
-use Rattle.syn_ty.specs.ty.Functions.{IsFnPtr}
-use Rattle.syn_ty.specs.ty.Objects.{AreBareBounds, IsImpl}
-use Rattle.syn_ty.specs.ty.Parts.{Manner, loosely, End, Parts}
-use Rattle.syn_ty.specs.ty.Points.{Readers}
+use Rattle.syn_ty.specs.path.Paths.{none_layer}
+use Rattle.syn_ty.specs.path.Reading.{path_type}
+use Rattle.syn_ty.specs.path.Spelling.{some_arguments}
 use Rattle.syn_ty.specs.ty.Reading as reading
-use Rattle.syn_ty.specs.ty.Spelling.{Relation, IsOptional}
-use Rattle.syn_ty.specs.ty.Spelt.{IsPathAlone, a_path_alone, spelt_to}
-use Rattle.syn_ty.specs.ty.Trees.{BoundLifetimes, Path, PathArguments, QSelf, TypeFnPtr, TypeImplTrait, TypeParamBound, TypePath, TypeTree}
-use Rattle.syn_ty.specs.ty.Types.{qualified_with}
 use Rattle.syn_ty.proofs.ty_laws.sound.Signed.{EmptyPair}
 use Rattle.syn_ty.proofs.ty_laws.sound.Forms.{Told}
 use Rattle.syn_ty.proofs.ty_laws.sound.TypePaths.{Onward, any_path_took}
@@ -38,7 +20,6 @@ use Rattle.syn_ty.proofs.ty_laws.sound.Types.{type_took}
 use Rattle.syn_ty.proofs.ty_laws.sound.HigherParts.{Up}
 use Rattle.syn_ty.proofs.ty_laws.sound.Higher.{higher}
 use Rattle.syn_ty.proofs.ty_laws.sound.HigherTypes.{type_up}
-use Rattle.syn_path.specs.Took.{Along}
 use Rattle.syn_ty.proofs.ty_laws.sound.Within.{Held, Supplied}
 
 -- ---- the laws over wider relations

@@ -1,17 +1,13 @@
 -- What is held verbatim is what was read: its tokens, and then those that are left.
 use Rattle.std.proofs.Common.{◌≡◌, ◌++◌, Ok, refl, sym, ◌∙◌, ap, append_assoc}
+use Rattle.syn_ty.proofs.ty_laws.words.Tokens.{Follows, Visible, Scope, Stream, Toks, done, word, mark, lit, group, enter, leave, TokenStream, row, trees}
+use Rattle.syn_ty.proofs.ty_laws.words.Forms.{outside, position, since}
+use Rattle.syn_ty.proofs.ty_laws.words.Types.{Holds}
 use Rattle.token_core.specs.Cut.{between, trees_between}
 use Rattle.token_core.specs.Front.{past_ends}
 use Rattle.token_core.specs.Positions.{items, row_items}
-use Rattle.token_core.specs.Reads.{Follows}
-use Rattle.token_core.specs.Rebuilt.{Visible}
-use Rattle.token_core.specs.Stream.{Scope, Stream}
-use Rattle.token_core.specs.Toks.{Toks, done, word, mark, lit, group, enter, leave}
-use Rattle.token_core.specs.Trees.{TokenStream, row, trees}
 use Rattle.token_core.proofs.Cuts.{between_trees, leads}
 use Rattle.token_core.proofs.Turns.{same_pair}
-use Rattle.syn_forms.specs.verbatim.Reading.{outside, position, since}
-use Rattle.syn_ty.specs.ty.Parts.{Holds}
 
 -- no end of an invisible group stands at the front
 no_ends : (l : Toks) → Visible l → past_ends l ≡ l

@@ -1,24 +1,9 @@
 -- A grammar of trees up to a height grows with the height: what spells a tree by a lower one spells it by a higher one.
 use Rattle.std.proofs.Common.{ℕ, zero, suc, ◌≤◌, Bool, false, List, arith}
-use Rattle.token_core.specs.Toks.{Toks}
-use Rattle.syn_path.specs.Values.{SpelledValues}
-use Rattle.syn_path.specs.declared.path.PathStyle.{PathStyle}
-use Rattle.syn_forms.specs.declared.places.BoundPlace.{BoundPlace}
-use Rattle.syn_forms.specs.declared.places.ParamPlace.{ParamPlace}
-use Rattle.syn_forms.specs.declared.places.TypePlace.{TypePlace}
-use Rattle.syn_forms.specs.declared.places.TypePlace.TheVariants.{Plus}
-use Rattle.syn_ty.specs.generics.Bounds.{IsBound, IsFor, IsTraitBound}
-use Rattle.syn_ty.specs.generics.Parameters.{IsConstParam, IsLifetimeParam, IsParam, IsTypeParam}
-use Rattle.syn_ty.specs.path.Arguments.{ArgumentPlace, IsArgument}
-use Rattle.syn_ty.specs.path.Signed.{IsParens, IsReturn}
-use Rattle.syn_ty.specs.path.Spelling.{IsAngle, IsArguments, IsPath, IsSegment}
-use Rattle.syn_ty.specs.ty.Admitted.{IsBorrow, IsBracketed, IsCounted, IsEnclosed, IsPointer, IsTupled, IsType}
-use Rattle.syn_ty.specs.ty.Functions.{IsFnPtr, IsNamedArg}
-use Rattle.syn_ty.specs.ty.Objects.{IsImpl, IsObject}
-use Rattle.syn_ty.specs.ty.Parts.{Manner, End, Parts}
-use Rattle.syn_ty.specs.ty.Spelling.{IsOptional, Relation}
-use Rattle.syn_ty.specs.ty.Spelt.{IsPathAlone, a_path_alone, spelt_to, turn}
-use Rattle.syn_ty.specs.ty.Trees.{TypePath}
+use Rattle.syn_ty.proofs.ty_laws.words.Tokens.{Toks}
+use Rattle.syn_ty.proofs.ty_laws.words.Paths.{SpelledValues, PathStyle}
+use Rattle.syn_ty.proofs.ty_laws.words.Forms.{BoundPlace, ParamPlace, TypePlace, Plus}
+use Rattle.syn_ty.proofs.ty_laws.words.Types.{IsBound, IsFor, IsTraitBound, IsConstParam, IsLifetimeParam, IsParam, IsTypeParam, ArgumentPlace, IsArgument, IsParens, IsReturn, IsAngle, IsArguments, IsPath, IsSegment, IsBorrow, IsBracketed, IsCounted, IsEnclosed, IsPointer, IsTupled, IsType, IsFnPtr, IsNamedArg, IsImpl, IsObject, Manner, End, Parts, IsOptional, Relation, IsPathAlone, a_path_alone, spelt_to, turn, TypePath}
 use Rattle.syn_ty.proofs.ty_laws.sound.HigherBounds.{argument_up, bound_up, const_param_up, for_up, lifetime_param_up, param_up, trait_bound_up, type_param_up}
 use Rattle.syn_ty.proofs.ty_laws.sound.HigherParts.{Up}
 use Rattle.syn_ty.proofs.ty_laws.sound.HigherPaths.{angle_up, any_path_up, arguments_up, parens_up, path_up, return_up, segment_up}

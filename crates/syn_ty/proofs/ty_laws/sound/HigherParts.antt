@@ -1,17 +1,10 @@
 -- What one grammar spells within a form, another spells too: so it is of values that marks join, of a part that may be missing, of what is held verbatim, of a binder and of a given value.
 use Rattle.std.proofs.Common.{Bool, List, Option}
-use Rattle.token_core.specs.Listed.{AreListed, none_left, last_value, value_and_mark}
+use Rattle.syn_ty.proofs.ty_laws.words.Tokens.{AreListed, none_left, last_value, value_and_mark, Toks, done, TokenStream, row, trees}
+use Rattle.syn_ty.proofs.ty_laws.words.Forms.{BoundPlace, ParamPlace, TypePlace}
+use Rattle.syn_ty.proofs.ty_laws.words.Types.{IsGiven, given, IsBinder, a_binder, Manner, loosely, plainly, clearly, End, Parts, AreMarked, no_further, one_further, Relation, IsOptional, absent, present, BoundLifetimes, GenericArgument, GenericParam, PathArguments, TypeParamBound, TypeTree}
 use Rattle.token_core.specs.Tokens as token
-use Rattle.token_core.specs.Toks.{Toks, done}
-use Rattle.token_core.specs.Trees.{TokenStream, row, trees}
-use Rattle.syn_forms.specs.declared.places.BoundPlace.{BoundPlace}
-use Rattle.syn_forms.specs.declared.places.ParamPlace.{ParamPlace}
-use Rattle.syn_forms.specs.declared.places.TypePlace.{TypePlace}
-use Rattle.syn_ty.specs.generics.Parameters.{IsGiven, given}
-use Rattle.syn_ty.specs.generics.Spelling.{IsBinder, a_binder}
-use Rattle.syn_ty.specs.ty.Parts.{Manner, loosely, plainly, clearly, End, Parts, IsVerbatim, AreMarked, no_further, one_further}
-use Rattle.syn_ty.specs.ty.Spelling.{Relation, IsOptional, absent, present}
-use Rattle.syn_ty.specs.ty.Trees.{BoundLifetimes, GenericArgument, GenericParam, PathArguments, TypeParamBound, TypeTree}
+use Rattle.syn_ty.specs.ty.Parts.{IsVerbatim}
 
 -- what the first spells, the second spells
 pub record Up {A E : Type 0} (p q : Parts A E) : Type 0 where

@@ -1,13 +1,10 @@
 -- Paths and their arguments grow with what stands within: where the one grammar spells it, the other does.
 use Rattle.std.proofs.Common.{List, Option}
-use Rattle.token_core.specs.Toks.{Bytes, Toks}
-use Rattle.syn_path.specs.declared.path.PathStyle.{PathStyle}
-use Rattle.syn_forms.specs.declared.places.TypePlace.{TypePlace}
-use Rattle.syn_ty.specs.path.Paths.{Sep}
-use Rattle.syn_ty.specs.path.Signed.{IsReturn, no_output, an_output, IsInput, an_input, IsParens, a_parens, IsDropped, nothing_dropped, a_sep_dropped, a_pair_dropped, IsSigned, a_signed, AreSigned, signed_last, signed_after, IsBoundPath, without_parens, with_parens}
-use Rattle.syn_ty.specs.path.Spelling.{IsAngle, an_angle, IsArguments, some_arguments, IsSegment, a_word, a_word_with_arguments, AreSegments, IsPath, a_path, IsQualified, by_type, by_type_as_path, IsAnyPath, unqualified, qualified, IsNoTry}
-use Rattle.syn_ty.specs.ty.Parts.{Manner, End, Parts}
-use Rattle.syn_ty.specs.ty.Trees.{AngleBracketed, NamedArg, Parenthesized, Path, PathArguments, PathSegment, QSelf, ReturnType}
+use Rattle.syn_ty.proofs.ty_laws.words.Tokens.{Bytes, Toks}
+use Rattle.syn_ty.proofs.ty_laws.words.Paths.{PathStyle}
+use Rattle.syn_ty.proofs.ty_laws.words.Forms.{TypePlace}
+use Rattle.syn_ty.proofs.ty_laws.words.Types.{Sep, IsReturn, no_output, an_output, IsInput, an_input, IsParens, a_parens, IsDropped, nothing_dropped, a_sep_dropped, a_pair_dropped, IsSigned, a_signed, AreSigned, signed_last, signed_after, IsBoundPath, without_parens, with_parens, IsAngle, an_angle, IsArguments, IsSegment, a_word, a_word_with_arguments, AreSegments, IsPath, a_path, IsQualified, by_type, by_type_as_path, IsAnyPath, unqualified, qualified, IsNoTry, Manner, End, Parts, AngleBracketed, NamedArg, Parenthesized, Path, PathArguments, PathSegment, QSelf, ReturnType}
+use Rattle.syn_ty.specs.path.Spelling.{some_arguments}
 use Rattle.syn_ty.proofs.ty_laws.sound.HigherParts.{Up, listed_up}
 
 module _ {A E : Type 0} {part over : Manner → Parts A E} (up : (how : Manner) → Up (part how) (over how)) where

@@ -1,18 +1,10 @@
 -- Types grow with what stands within: where the one grammar spells it, the other does.
 use Rattle.std.proofs.Common.{Bool, List, Option}
-use Rattle.token_core.specs.Loops.{Many}
+use Rattle.syn_ty.proofs.ty_laws.words.Tokens.{Many, Toks}
+use Rattle.syn_ty.proofs.ty_laws.words.Forms.{BoundPlace, TypePlace}
+use Rattle.syn_ty.proofs.ty_laws.words.Types.{FnPtrVariadicOf, IsFor, IsPointer, a_pointer, IsBorrow, a_borrow, a_mutable_borrow, a_lifetime_borrow, IsEnclosed, enclosed, IsBracketed, bracketed, IsCounted, counted, IsElement, an_element, IsTupled, no_element, some_elements, IsVerbatimType, an_unsafe_binder, a_dyn_star, a_builtin, IsType, a_path_type, a_macro, a_bound_macro, an_object_with_dyn, an_object_without_dyn, an_impl_type, a_fn_type, a_ptr_type, a_reference_type, a_paren_type, a_tuple_type, a_slice_type, an_array_type, an_infer_type, a_never_type, a_verbatim_type, IsMutSelf, mut_self, mut_self_typed, named_mut_self, IsNamedArg, a_named_argument, a_verbatim_argument, IsVariadic, dots, named_dots, AreInputs, plain_inputs, variadic_inputs, IsFnPtr, a_fn_ptr, IsBoundList, several_bounds, one_bound, AreObjectBounds, object_bounds, IsDyn, a_dyn, IsObject, an_object, IsImpl, an_impl, IsFirst, a_first, a_first_for, IsAsked, an_asked, AreFurther, none_further, some_further, AreBareBounds, path_alone, path_and_plus, held_and_plus, asked_first, asked_in_two, lifetime_first, Manner, End, Parts, IsOptional, BoundLifetimes, NamedArg, Path, TypeArray, TypeFnPtr, TypeImplTrait, TypeParamBound, TypeParen, TypePtr, TypeReference, TypeSlice, TypeTraitObject, TypeTree, TypeTuple}
 use Rattle.token_core.specs.Tokens as token
-use Rattle.token_core.specs.Toks.{Toks}
-use Rattle.syn_forms.specs.declared.places.BoundPlace.{BoundPlace}
-use Rattle.syn_forms.specs.declared.places.TypePlace.{TypePlace}
-use Rattle.syn_ty.specs.declared.ty.FnPtrVariadicOf.{FnPtrVariadicOf}
-use Rattle.syn_ty.specs.generics.Bounds.{IsFor}
-use Rattle.syn_ty.specs.ty.Admitted.{IsPointer, a_pointer, IsBorrow, a_borrow, a_mutable_borrow, a_lifetime_borrow, IsEnclosed, enclosed, IsBracketed, bracketed, IsCounted, counted, IsElement, an_element, IsTupled, no_element, some_elements, IsVerbatimType, an_unsafe_binder, a_dyn_star, a_builtin, IsType, a_path_type, a_macro, a_bound_macro, an_object_with_dyn, an_object_without_dyn, an_impl_type, a_fn_type, a_ptr_type, a_reference_type, a_paren_type, a_tuple_type, a_slice_type, an_array_type, an_infer_type, a_never_type, a_verbatim_type}
-use Rattle.syn_ty.specs.ty.Functions.{IsMutSelf, mut_self, mut_self_typed, named_mut_self, IsNamedArg, an_argument, a_named_argument, a_verbatim_argument, IsVariadic, dots, named_dots, AreInputs, plain_inputs, variadic_inputs, IsFnPtr, a_fn_ptr}
-use Rattle.syn_ty.specs.ty.Objects.{IsBoundList, several_bounds, one_bound, AreObjectBounds, object_bounds, IsDyn, a_dyn, IsObject, an_object, IsImpl, an_impl, IsFirst, a_first, a_first_for, IsAsked, an_asked, AreFurther, none_further, some_further, AreBareBounds, path_alone, path_and_plus, held_and_plus, asked_first, asked_in_two, lifetime_first}
-use Rattle.syn_ty.specs.ty.Parts.{Manner, End, Parts}
-use Rattle.syn_ty.specs.ty.Spelling.{IsOptional}
-use Rattle.syn_ty.specs.ty.Trees.{BoundLifetimes, NamedArg, Path, TypeArray, TypeFnPtr, TypeImplTrait, TypeParamBound, TypeParen, TypePtr, TypeReference, TypeSlice, TypeTraitObject, TypeTree, TypeTuple}
+use Rattle.syn_ty.specs.ty.Functions.{an_argument}
 use Rattle.syn_ty.proofs.ty_laws.sound.HigherBounds.{for_up, bounds_up}
 use Rattle.syn_ty.proofs.ty_laws.sound.HigherParts.{Up, held_up, listed_up, marked_up, optional_up}
 use Rattle.syn_ty.proofs.ty_laws.sound.HigherPaths.{bound_path_up, no_try_up, path_up, return_up}

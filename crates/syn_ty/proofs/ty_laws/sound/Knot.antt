@@ -1,37 +1,18 @@
 -- The reads that go back to themselves, tied: what they answer is spelt, by the count of the turns.
 use Rattle.std.proofs.Common.{◌≡◌, ℕ, zero, suc, ◌<◌, ◌≤◌, ◌==◌, eqb-true, Bool, true, List, length, None, Ok, refl, sym, ◌∙◌, ap, subst, arith}
-use Rattle.token_core.specs.declared.lifetime.Lifetime.{Lifetime}
-use Rattle.token_core.specs.Listed.{none_left, last_value, value_and_mark}
-use Rattle.token_core.specs.Loops.{Many}
-use Rattle.token_core.specs.Reads.{Reader, leaves}
-use Rattle.token_core.specs.Rebuilt.{Visible}
-use Rattle.token_core.specs.Spellings.{IsLifetime}
-use Rattle.token_core.specs.Stream.{Stream}
+use Rattle.syn_ty.proofs.ty_laws.words.Tokens.{Lifetime, none_left, last_value, value_and_mark, Many, Reader, leaves, Visible, IsLifetime, Stream, Toks, done}
+use Rattle.syn_ty.proofs.ty_laws.words.Paths.{ReadValues, SpelledValues}
+use Rattle.syn_ty.proofs.ty_laws.words.Forms.{Object, Opaque, TypePlace, Plus, ahead, below, allows_plus}
+use Rattle.syn_ty.proofs.ty_laws.words.Types.{a_lifetime_bound, alone, IsArgument, is_empty, IsAngle, an_angle, IsType, read, read_at, reads_below, step, AreBareBounds, IsImpl, Manner, loosely, End, closed, Parts, Point, Tree, Readers, a_bound, a_param, a_type, an_argument, some_arguments, spelt_to, AngleBracketed, GenericArgument, PathArguments, TypeImplTrait, TypeParamBound, TypeTree}
 use Rattle.token_core.specs.Tokens.{Plus as PlusMark}
-use Rattle.token_core.specs.Toks.{Toks, done}
-use Rattle.syn_path.specs.Values.{ReadValues, SpelledValues}
 use Rattle.syn_path.proofs.Words.{TookOne}
-use Rattle.syn_forms.specs.declared.places.BoundPlace.TheVariants.{Object, Opaque}
-use Rattle.syn_forms.specs.declared.places.TypePlace.{TypePlace}
-use Rattle.syn_forms.specs.declared.places.TypePlace.TheVariants.{Plus}
-use Rattle.syn_forms.specs.nested.Below.{ahead, below}
-use Rattle.syn_forms.specs.places.Reading.{allows_plus}
 use Rattle.syn_forms.proofs.nested_laws.Below.{out}
 use Rattle.syn_ty.specs.declared.generics.GenericParamOf.TheOpen as o
 use Rattle.syn_ty.specs.declared.generics.TypeParamBoundOf.TheVariants as bound
 use Rattle.syn_ty.specs.declared.path.PathArgumentsOf.TheVariants as a
-use Rattle.syn_ty.specs.generics.Bounds.{a_lifetime_bound}
-use Rattle.syn_ty.specs.path.Arguments.{alone, IsArgument}
-use Rattle.syn_ty.specs.path.Paths.{empty_layer, is_empty}
-use Rattle.syn_ty.specs.path.Spelling.{IsAngle, an_angle, some_arguments as angle_arguments}
-use Rattle.syn_ty.specs.ty.Admitted.{IsType}
-use Rattle.syn_ty.specs.ty.Knot.{read, read_at, reads_below, step}
-use Rattle.syn_ty.specs.ty.Objects.{AreBareBounds, IsImpl}
-use Rattle.syn_ty.specs.ty.Parts.{Manner, loosely, End, closed, Parts}
-use Rattle.syn_ty.specs.ty.Points.{Point, Tree, Readers, a_bound, a_param, a_type, an_argument, some_arguments}
+use Rattle.syn_ty.specs.path.Paths.{empty_layer}
+use Rattle.syn_ty.specs.path.Spelling.{some_arguments as angle_arguments}
 use Rattle.syn_ty.specs.ty.Reading as reading
-use Rattle.syn_ty.specs.ty.Spelt.{spelt_to}
-use Rattle.syn_ty.specs.ty.Trees.{AngleBracketed, GenericArgument, PathArguments, TypeImplTrait, TypeParamBound, TypeTree}
 use Rattle.syn_ty.proofs.ty_laws.sound.AlongBounds.{binder_along}
 use Rattle.syn_ty.proofs.ty_laws.sound.AlongKnot.{step_along}
 use Rattle.syn_ty.proofs.ty_laws.sound.AlongTypes.{builtin_along, unsafe_binder_along}

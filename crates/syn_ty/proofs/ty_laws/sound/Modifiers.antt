@@ -1,26 +1,19 @@
 -- Where the modifiers of a bound are read, they are spelt by the rules of the whole grammar: where it is allowed a `const` form, and `async`; and the stream stands further on.
 use Rattle.std.proofs.Common.{◌≡◌, Bool, true, false, Option, Some, None, Ok, inl, inr, refl, sym, subst}
-use Rattle.token_core.specs.declared.tree.Delimiter.TheVariants.{Bracket}
+use Rattle.syn_ty.proofs.ty_laws.words.Tokens.{Bracket, in_group, leaves, sees_group, Visible, IsWord, Stream, Toks, done}
+use Rattle.syn_ty.proofs.ty_laws.words.Paths.{Along}
+use Rattle.syn_ty.proofs.ty_laws.words.Forms.{in_brackets}
+use Rattle.syn_ty.proofs.ty_laws.words.Types.{BoundConst, TraitBoundModifiers, IsConstness, no_constness, a_const, a_conditional_const, AreModifiers, some_modifiers}
 use Rattle.token_core.specs.Groups as groups
-use Rattle.token_core.specs.Reads.{in_group, leaves, sees_group}
-use Rattle.token_core.specs.Rebuilt.{Visible}
-use Rattle.token_core.specs.Spellings.{IsWord}
-use Rattle.token_core.specs.Stream.{Stream}
 use Rattle.token_core.specs.Tokens as token
-use Rattle.token_core.specs.Toks.{Toks, done}
 use Rattle.token_core.proofs.Took.{branch, mapped}
 use Rattle.token_core.proofs.Turns.{chain, same_pair}
 use Rattle.syn_path.proofs.Words.{TookOne}
-use Rattle.syn_path.specs.Took.{Along}
-use Rattle.syn_forms.specs.groups.Reading.{in_brackets}
 use Rattle.syn_forms.specs.tokens.Reading.{asyncness}
 use Rattle.syn_forms.proofs.along_laws.Forms.{asyncness_along}
 use Rattle.syn_forms.proofs.along_laws.Kit.{further}
 use Rattle.syn_forms.proofs.tokens_laws.Fronts.{took_as, took_whole}
-use Rattle.syn_ty.specs.declared.generics.BoundConst.{BoundConst}
 use Rattle.syn_ty.specs.declared.generics.BoundConst.TheVariants as c
-use Rattle.syn_ty.specs.declared.generics.TraitBoundModifiers.{TraitBoundModifiers}
-use Rattle.syn_ty.specs.generics.Bounds.{IsConstness, no_constness, a_const, a_conditional_const, AreModifiers, some_modifiers}
 use Rattle.syn_ty.specs.generics.Modifiers.{modifiers_of}
 use Rattle.syn_ty.specs.generics.Reading.{allowed, const_form, constness, modifiers}
 use Rattle.syn_ty.proofs.ty_laws.sound.Leaves.{IsHeld, held_sound, named_sound, optional_sound}

@@ -1,38 +1,18 @@
 -- Where the bounds of a trait object are read, they are spelt by the rules of the whole grammar: the first is read alone, and with plus the others as bounds joined by `+`; also of one that begins with a lifetime, and of one by itself.
 use Rattle.std.proofs.Common.{◌≡◌, Bool, true, false, ◌||◌, List, [], ◌∷◌, Option, None, Ok, inl, inr, refl, sym, ◌∙◌, ap, subst, arith}
 use Rattle.std.specs.List.{list_any}
+use Rattle.syn_ty.proofs.ty_laws.words.Tokens.{Lifetime, Span, read_lifetime, AfterMark, Many, listed, Reader, ◌>>=◌, here, pure, Visible, IsLifetime, IsMark, IsWord, Stream, Toks}
+use Rattle.syn_ty.proofs.ty_laws.words.Forms.{Object, TypePlace, bounds_from, list_from, plus_follows, stops_bound, allows_plus, refuse_since}
+use Rattle.syn_ty.proofs.ty_laws.words.Types.{AreBounds, no_bounds, last_plus, last_bound, bound_and_plus, IsBoundList, several_bounds, one_bound, AreObjectBounds, object_bounds, IsObject, an_object, AreBareBounds, lifetime_first, Manner, loosely, End, closed, going_on, Parts, Readers, a_bound, is_trait, trait_layer, IsOptional, TypeParamBound, TypeTraitObject, trait_object_with}
 use Rattle.token_core.specs.declared.error.ErrorKind.TheVariants.{NoTraitInObject}
-use Rattle.token_core.specs.declared.lifetime.Lifetime.{Lifetime}
-use Rattle.token_core.specs.declared.span.Span.{Span}
-use Rattle.token_core.specs.Lifetimes.{read_lifetime}
-use Rattle.token_core.specs.Listed.{AfterMark}
-use Rattle.token_core.specs.Loops.{Many, listed}
-use Rattle.token_core.specs.Reads.{Reader, ◌>>=◌, here, pure}
-use Rattle.token_core.specs.Rebuilt.{Visible}
-use Rattle.token_core.specs.Spellings.{IsLifetime, IsMark, IsWord}
-use Rattle.token_core.specs.Stream.{Stream}
 use Rattle.token_core.specs.Tokens as token
-use Rattle.token_core.specs.Toks.{Toks}
 use Rattle.token_core.proofs.MarkSpells.{mark_sound, mark_visible}
 use Rattle.token_core.proofs.Took.{branch, mapped}
 use Rattle.token_core.proofs.Turns.{chain, same_pair}
 use Rattle.token_core.proofs.WordSpells.{lifetime_seen}
 use Rattle.syn_path.proofs.Words.{TookOne}
-use Rattle.syn_forms.specs.declared.places.BoundPlace.TheVariants.{Object}
-use Rattle.syn_forms.specs.declared.places.TypePlace.{TypePlace}
-use Rattle.syn_forms.specs.lists.Reading.{bounds_from, list_from, plus_follows, stops_bound}
-use Rattle.syn_forms.specs.places.Reading.{allows_plus}
-use Rattle.syn_forms.specs.verbatim.Reading.{refuse_since}
 use Rattle.syn_ty.specs.declared.generics.TypeParamBoundOf.TheVariants as b
-use Rattle.syn_ty.specs.generics.Bounds.{AreBounds, no_bounds, last_plus, last_bound, bound_and_plus}
-use Rattle.syn_ty.specs.ty.Objects.{IsBoundList, several_bounds, one_bound, AreObjectBounds, object_bounds, IsObject, an_object, AreBareBounds, lifetime_first}
-use Rattle.syn_ty.specs.ty.Parts.{Manner, loosely, End, closed, going_on, Parts}
-use Rattle.syn_ty.specs.ty.Points.{Readers, a_bound}
 use Rattle.syn_ty.specs.ty.Reading as reading
-use Rattle.syn_ty.specs.ty.Reading.{is_trait, trait_layer}
-use Rattle.syn_ty.specs.ty.Spelling.{IsOptional}
-use Rattle.syn_ty.specs.ty.Trees.{TypeParamBound, TypeTraitObject}
-use Rattle.syn_ty.specs.ty.Types.{trait_object_with}
 use Rattle.syn_ty.proofs.ty_laws.sound.Bounds.{bounds_took, word_ends}
 use Rattle.syn_ty.proofs.ty_laws.sound.Leaves.{life_sound, named_sound, optional_sound}
 use Rattle.syn_ty.proofs.ty_laws.sound.Forms.{Told, before_plus, both}

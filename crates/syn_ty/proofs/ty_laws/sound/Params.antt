@@ -1,46 +1,24 @@
 -- Where parameters are read, they are spelt by the rules of the whole grammar: lifetimes, types and constants after their attributes, each in its place; where their bounds end open no `+` follows.
 use Rattle.std.proofs.Common.{◌≡◌, ℕ, ◌≤◌, Bool, true, false, List, [], length, Option, Some, None, Ok, inl, inr, refl, sym, ◌∙◌, ap, subst, arith}
-use Rattle.token_core.specs.declared.lifetime.Lifetime.{Lifetime}
-use Rattle.token_core.specs.declared.mark.Mark.{Mark}
-use Rattle.token_core.specs.declared.tree.Ident.{Ident}
-use Rattle.token_core.specs.Lifetimes.{read_lifetime, sees_lifetime}
-use Rattle.token_core.specs.Listed.{AreListed, Anywhere}
-use Rattle.token_core.specs.Loops.{Many}
+use Rattle.syn_ty.proofs.ty_laws.words.Tokens.{Lifetime, Mark, Ident, read_lifetime, sees_lifetime, AreListed, Anywhere, Many, Reader, ◌>>=◌, ◌<$>◌, any_text, ident_name, is_done, is_ident, is_text, optional, read_word, sees_mark, sees_word, Visible, IsMark, IsWord, IsLifetime, Stream, Toks, done, word, mark, lit, group, enter, leave}
+use Rattle.syn_ty.proofs.ty_laws.words.Paths.{ReadValues}
+use Rattle.syn_ty.proofs.ty_laws.words.Forms.{Parameter, ParamPlace, Binder, Plus, bounds_to, list, ahead}
+use Rattle.syn_ty.proofs.ty_laws.words.Types.{LifetimeParamOf, AreBounds, IsFor, IsGiven, given, AreLifetimes, IsLifetimeParam, a_lone_lifetime, a_lifetime_with_bounds, AreBoundsAfter, no_colon, after_colon, IsAnyType, any_type, IsTypeParam, a_type_param, IsConstParam, a_const_param, IsParam, a_lifetime_param, a_named_param, a_constant_param, a_bare_param, const_param_of, lifetime_param_of, type_param_of, binder, optional_binder, param_after, param_step, in_binder, in_generics, reads_below, Manner, loosely, Parts, Readers, a_bound, a_type, Relation, IsOptional, absent, present, BoundLifetimes, ConstParam, GenericParam, TypeParam, TypeParamBound, TypeTree}
 use Rattle.token_core.specs.Marks as marks
-use Rattle.token_core.specs.Reads.{Reader, ◌>>=◌, ◌<$>◌, any_text, ident_name, is_done, is_ident, is_text, optional, read_word, sees_mark, sees_word}
-use Rattle.token_core.specs.Rebuilt.{Visible}
-use Rattle.token_core.specs.Spellings.{IsMark, IsWord, IsLifetime}
-use Rattle.token_core.specs.Stream.{Stream}
 use Rattle.token_core.specs.Tokens as token
-use Rattle.token_core.specs.Toks.{Toks, done, word, mark, lit, group, enter, leave}
 use Rattle.token_core.proofs.Listings.{listed_sound, listed_visible}
 use Rattle.token_core.proofs.MarkSpells.{mark_sound, mark_visible}
 use Rattle.token_core.proofs.Took.{branch, mapped, seen_word, took_word}
 use Rattle.token_core.proofs.Turns.{chain, same_pair}
 use Rattle.syn_path.proofs.Words.{TookOne}
-use Rattle.syn_path.specs.Values.{ReadValues}
-use Rattle.syn_forms.specs.declared.places.BoundPlace.TheVariants.{Parameter}
-use Rattle.syn_forms.specs.declared.places.ParamPlace.{ParamPlace}
-use Rattle.syn_forms.specs.declared.places.ParamPlace.TheVariants.{Binder, Generics}
-use Rattle.syn_forms.specs.declared.places.TypePlace.TheVariants.{Plus}
-use Rattle.syn_forms.specs.lists.Reading.{bounds_to, list}
-use Rattle.syn_forms.specs.nested.Below.{ahead}
+use Rattle.syn_forms.specs.declared.places.ParamPlace.TheVariants.{Generics}
 use Rattle.syn_forms.specs.params.Reading as parts
 use Rattle.syn_forms.specs.params.Reading.{LifetimeParts, TypeParts, ConstParts, bounds_after, default_of, ends_lifetime, ends_type}
 use Rattle.syn_forms.proofs.tokens_laws.Fronts.{plainly, took_as}
 use Rattle.syn_ty.specs.declared.generics.GenericParamOf.TheVariants as g
-use Rattle.syn_ty.specs.declared.generics.LifetimeParamOf.{LifetimeParamOf}
-use Rattle.syn_ty.specs.generics.Bounds.{AreBounds, IsFor}
-use Rattle.syn_ty.specs.generics.Parameters.{IsGiven, given, AreLifetimes, IsLifetimeParam, a_lone_lifetime, a_lifetime_with_bounds, AreBoundsAfter, no_colon, after_colon, IsAnyType, any_type, IsTypeParam, a_type_param, IsConstParam, a_const_param, IsParam, a_lifetime_param, a_named_param, a_constant_param, a_bare_param}
-use Rattle.syn_ty.specs.generics.Params.{const_param_of, lifetime_param_of, type_param_of}
 use Rattle.syn_ty.specs.generics.Reading as reading
-use Rattle.syn_ty.specs.generics.Reading.{binder, lifetime_after, optional_binder, param_after, param_step, sees_ident, type_after, const_after, in_binder, in_generics, underscore_after}
+use Rattle.syn_ty.specs.generics.Reading.{lifetime_after, sees_ident, type_after, const_after, underscore_after}
 use Rattle.syn_ty.specs.ty.Knot as knot
-use Rattle.syn_ty.specs.ty.Knot.{reads_below}
-use Rattle.syn_ty.specs.ty.Parts.{Manner, loosely, Parts}
-use Rattle.syn_ty.specs.ty.Points.{Readers, a_bound, a_type}
-use Rattle.syn_ty.specs.ty.Spelling.{Relation, IsOptional, absent, present}
-use Rattle.syn_ty.specs.ty.Trees.{BoundLifetimes, ConstParam, GenericParam, TypeParam, TypeParamBound, TypeTree}
 use Rattle.syn_ty.proofs.generics_laws.Sound as binders
 use Rattle.syn_ty.proofs.ty_laws.sound.Bounds.{bounds_took}
 use Rattle.syn_ty.proofs.ty_laws.sound.Leaves.{life_sound, named_sound, optional_sound}

@@ -1,45 +1,23 @@
 -- Where a type begins with parentheses, it is spelt by the rules of the whole grammar: a type in parentheses, a tuple, or a trait object whose first bound stands in them.
 use Rattle.std.proofs.Common.{◌≡◌, Bool, true, false, List, [], ◌∷◌, Option, Some, None, Ok, ◌⊎◌, inl, inr, refl, sym, ◌∙◌, ap, subst}
-use Rattle.token_core.specs.declared.span.DelimSpan.{DelimSpan}
-use Rattle.token_core.specs.declared.tree.Delimiter.TheVariants.{Parenthesis}
+use Rattle.syn_ty.proofs.ty_laws.words.Tokens.{DelimSpan, Parenthesis, sees_lifetime, Nowhere, Many, never, Reader, in_group, is_done, leaves, Visible, IsMark, Stream, Toks, done, group}
+use Rattle.syn_ty.proofs.ty_laws.words.Forms.{ParenContent, Object, Binder, TypePlace, Plus, more_elements, plus_follows, allows_plus}
+use Rattle.syn_ty.proofs.ty_laws.words.Types.{AreBounds, IsTraitBound, held_bound, trait_in, IsType, NoLifetime, a_paren_type, a_tuple_type, an_object_without_dyn, enclosed, AreBareBounds, asked_first, asked_in_two, held_and_plus, none_further, some_further, Manner, loosely, End, closed, Parts, Readers, a_bound, a_type, first_bound, object_of, TraitBound, TypeParamBound, TypeTree, paren_of, tuple_of}
 use Rattle.token_core.specs.Groups as groups
-use Rattle.token_core.specs.Lifetimes.{sees_lifetime}
-use Rattle.token_core.specs.Listed.{Nowhere}
-use Rattle.token_core.specs.Loops.{Many, never}
-use Rattle.token_core.specs.Reads.{Reader, in_group, is_done, leaves}
-use Rattle.token_core.specs.Rebuilt.{Visible}
-use Rattle.token_core.specs.Spellings.{IsMark}
-use Rattle.token_core.specs.Stream.{Stream}
 use Rattle.token_core.specs.Tokens as token
-use Rattle.token_core.specs.Toks.{Toks, done, group}
 use Rattle.token_core.proofs.Took.{branch, mapped, took_all}
 use Rattle.token_core.proofs.Turns.{chain, same_pair}
 use Rattle.token_core.proofs.Unseen.{no_lifetime-done}
 use Rattle.syn_path.proofs.Words.{TookOne}
-use Rattle.syn_forms.specs.declared.groups.ParenContent.{ParenContent}
 use Rattle.syn_forms.specs.declared.groups.ParenContent.TheVariants as held
-use Rattle.syn_forms.specs.declared.places.BoundPlace.TheVariants.{Object}
-use Rattle.syn_forms.specs.declared.places.ParamPlace.TheVariants.{Binder}
-use Rattle.syn_forms.specs.declared.places.TypePlace.{TypePlace}
-use Rattle.syn_forms.specs.declared.places.TypePlace.TheVariants.{Plus}
 use Rattle.syn_forms.specs.groups.Reading as inner
-use Rattle.syn_forms.specs.lists.Reading.{each_bound_from, more_elements, plus_follows}
-use Rattle.syn_forms.specs.places.Reading.{allows_plus}
+use Rattle.syn_forms.specs.lists.Reading.{each_bound_from}
 use Rattle.syn_forms.proofs.tokens_laws.Fronts.{took_whole}
 use Rattle.syn_ty.specs.declared.generics.TypeParamBoundOf.TheVariants as b
 use Rattle.syn_ty.specs.declared.ty.TypeOf.TheVariants as v
-use Rattle.syn_ty.specs.generics.Bounds.{AreBounds, IsTraitBound}
-use Rattle.syn_ty.specs.generics.Params.{held_bound}
-use Rattle.syn_ty.specs.generics.Reading.{trait_in}
-use Rattle.syn_ty.specs.ty.Admitted.{IsType, NoLifetime, a_paren_type, a_tuple_type, an_object_without_dyn, enclosed}
-use Rattle.syn_ty.specs.ty.Objects.{AreBareBounds, asked_first, asked_in_two, held_and_plus, none_further, some_further}
-use Rattle.syn_ty.specs.ty.Parts.{Manner, loosely, End, closed, opened, Parts}
-use Rattle.syn_ty.specs.ty.Points.{Readers, a_bound, a_type}
+use Rattle.syn_ty.specs.ty.Parts.{opened}
 use Rattle.syn_ty.specs.ty.Reading as reading
-use Rattle.syn_ty.specs.ty.Reading.{first_bound, object_of}
 use Rattle.syn_ty.proofs.ty_laws.sound.Leaves as plain
-use Rattle.syn_ty.specs.ty.Trees.{TraitBound, TypeParamBound, TypeTree}
-use Rattle.syn_ty.specs.ty.Types.{paren_of, tuple_of}
 use Rattle.syn_ty.proofs.ty_laws.sound.Calls.{and_second}
 use Rattle.syn_ty.proofs.ty_laws.sound.FirstBound.{Further, Lone, first_took}
 use Rattle.syn_ty.proofs.ty_laws.sound.FirstParts.{Starts, asked_of, starts_asked, starts_held, type_starts}

@@ -1,31 +1,18 @@
 -- Where paths are read, in the style of types or of expressions, they are spelt by the rules of the whole grammar, over the same law of the arguments of a segment.
 use Rattle.std.proofs.Common.{◌≡◌, Bool, true, false, ◌&&◌, ◌||◌, Option, None, Ok, inl, inr, refl, sym, ◌∙◌, ap, subst, arith}
-use Rattle.token_core.specs.declared.tree.Ident.{Ident}
-use Rattle.token_core.specs.Listed.{AreListed, Nowhere}
-use Rattle.token_core.specs.Loops.{Many, never}
-use Rattle.token_core.specs.Reads.{Reader, any_text, ident_name, optional, pure, read_word, sees_word, ◌>>=◌, ◌<$>◌}
-use Rattle.token_core.specs.Rebuilt.{Visible}
-use Rattle.token_core.specs.Spellings.{IsMark}
-use Rattle.token_core.specs.Stream.{Stream}
+use Rattle.syn_ty.proofs.ty_laws.words.Tokens.{Ident, AreListed, Nowhere, Many, never, Reader, any_text, ident_name, optional, pure, read_word, sees_word, ◌>>=◌, ◌<$>◌, Visible, IsMark, Stream, Toks, word}
+use Rattle.syn_ty.proofs.ty_laws.words.Paths.{PathStyle, AsWritten, Expr, path_of, segment_of}
+use Rattle.syn_ty.proofs.ty_laws.words.Forms.{is_bare_word, is_named_word, sees_arguments, sees_turbofish, with_arguments}
+use Rattle.syn_ty.proofs.ty_laws.words.Types.{Sep, no_arguments, Styled, IsSegment, a_word, a_word_with_arguments, IsPath, a_path, Manner, loosely, Parts, Readers, some_arguments, Path, PathArguments, PathSegment}
 use Rattle.token_core.specs.Tokens as token
-use Rattle.token_core.specs.Toks.{Toks, word}
 use Rattle.token_core.proofs.Listings.{listed_sound, listed_visible}
 use Rattle.token_core.proofs.MarkSpells.{mark_sound, mark_visible}
 use Rattle.token_core.proofs.Took.{branch, mapped, seen_word, took_word}
 use Rattle.token_core.proofs.Turns.{chain, same_pair}
 use Rattle.syn_path.proofs.Words.{TookOne}
-use Rattle.syn_path.specs.declared.path.PathStyle.{PathStyle}
-use Rattle.syn_path.specs.declared.path.PathStyle.TheVariants.{AsWritten, Expr}
-use Rattle.syn_path.specs.path.Paths.{path_of, segment_of}
 use Rattle.syn_path.specs.path.Reading.{leading}
 use Rattle.syn_forms.specs.paths.Reading as paths
-use Rattle.syn_forms.specs.paths.Reading.{is_bare_word, is_named_word, sees_arguments, sees_turbofish, with_arguments}
 use Rattle.syn_forms.proofs.tokens_laws.Fronts.{plainly}
-use Rattle.syn_ty.specs.path.Paths.{Sep, no_arguments}
-use Rattle.syn_ty.specs.path.Spelling.{Styled, IsSegment, a_word, a_word_with_arguments, IsPath, a_path}
-use Rattle.syn_ty.specs.ty.Parts.{Manner, loosely, Parts}
-use Rattle.syn_ty.specs.ty.Points.{Readers, some_arguments}
-use Rattle.syn_ty.specs.ty.Trees.{Path, PathArguments, PathSegment}
 use Rattle.syn_ty.proofs.ty_laws.sound.Leaves.{optional_sound}
 
 -- ---- truths joined by `or` and `and`

@@ -1,28 +1,16 @@
 -- Where a path that a type may qualify is read, it is spelt by the rules of the whole grammar: a type before `as` does not end in a plus, since a word follows.
 use Rattle.std.proofs.Common.{◌≡◌, true, false, Option, Some, None, Ok, inl, inr, refl, sym, ◌∙◌, subst, arith}
-use Rattle.token_core.specs.declared.word.Word.{Word}
-use Rattle.token_core.specs.Reads.{Reader, any_text, sees_word}
-use Rattle.token_core.specs.Rebuilt.{Visible}
-use Rattle.token_core.specs.Spellings.{IsMark, IsWord, is_word}
-use Rattle.token_core.specs.Stream.{Stream}
+use Rattle.syn_ty.proofs.ty_laws.words.Tokens.{Word, Reader, any_text, sees_word, Visible, IsMark, IsWord, is_word, Stream, Toks}
+use Rattle.syn_ty.proofs.ty_laws.words.Paths.{PathStyle, AsWritten}
+use Rattle.syn_ty.proofs.ty_laws.words.Forms.{TypePlace, Plus}
+use Rattle.syn_ty.proofs.ty_laws.words.Types.{Sep, no_arguments, IsPath, IsQualified, by_type, by_type_as_path, Manner, loosely, End, Parts, Readers, a_type, some_arguments, IsOptional, absent, present, Path, PathArguments, QSelf, TypeTree}
 use Rattle.token_core.specs.Tokens as token
-use Rattle.token_core.specs.Toks.{Toks}
 use Rattle.token_core.proofs.MarkSpells.{mark_sound, mark_visible}
 use Rattle.token_core.proofs.Took.{branch, mapped, seen_word}
 use Rattle.token_core.proofs.Turns.{chain, same_pair}
 use Rattle.syn_path.proofs.Words.{TookOne}
-use Rattle.syn_path.specs.declared.path.PathStyle.{PathStyle}
-use Rattle.syn_path.specs.declared.path.PathStyle.TheVariants.{AsWritten}
-use Rattle.syn_forms.specs.declared.places.TypePlace.{TypePlace}
-use Rattle.syn_forms.specs.declared.places.TypePlace.TheVariants.{Plus}
 use Rattle.syn_forms.specs.paths.Reading as paths
 use Rattle.syn_forms.specs.paths.Reading.{qualified_of}
-use Rattle.syn_ty.specs.path.Paths.{Sep, no_arguments}
-use Rattle.syn_ty.specs.path.Spelling.{IsPath, IsQualified, by_type, by_type_as_path}
-use Rattle.syn_ty.specs.ty.Parts.{Manner, loosely, End, Parts}
-use Rattle.syn_ty.specs.ty.Points.{Readers, a_type, some_arguments}
-use Rattle.syn_ty.specs.ty.Spelling.{IsOptional, absent, present}
-use Rattle.syn_ty.specs.ty.Trees.{Path, PathArguments, QSelf, TypeTree}
 use Rattle.syn_ty.proofs.ty_laws.sound.Paths.{All, Segments, path_took, segments_took, sep_took}
 use Rattle.syn_ty.proofs.ty_laws.sound.Leaves.{named_sound}
 use Rattle.syn_ty.proofs.ty_laws.sound.Forms.{Told, both, not_true}

@@ -1,40 +1,21 @@
 -- Where arguments in parentheses are read, they are spelt by the rules of the whole grammar; and where a path takes them, with the tokens before them that it drops, it is the path of a trait bound.
 use Rattle.std.proofs.Common.{◌≡◌, Bool, true, false, not, ◌&&◌, List, [], ◌∷◌, Option, None, Ok, inl, inr, refl, sym, ◌∙◌, ap, subst}
-use Rattle.token_core.specs.declared.span.DelimSpan.{DelimSpan}
-use Rattle.token_core.specs.declared.tree.Delimiter.TheVariants.{Parenthesis}
+use Rattle.syn_ty.proofs.ty_laws.words.Tokens.{DelimSpan, Parenthesis, AreListed, none_left, last_value, value_and_mark, Anywhere, Nowhere, Many, terminated, Reader, ◌>>=◌, in_group, is_done, leaves, optional, pure, Visible, IsMark, Stream, Bytes, Toks, done}
+use Rattle.syn_ty.proofs.ty_laws.words.Paths.{AsWritten}
+use Rattle.syn_ty.proofs.ty_laws.words.Forms.{TypePlace, Plus, NoPlus, in_parens, last_with, with_arguments, comma}
+use Rattle.syn_ty.proofs.ty_laws.words.Types.{Sep, is_empty, no_arguments, parens_of, parenthesized, return_of, sees_signature, signed, takes_signature, AreSigned, IsBoundPath, IsDropped, IsInput, IsParens, IsSigned, a_pair_dropped, a_parens, a_sep_dropped, a_signed, an_input, nothing_dropped, signed_after, signed_last, with_parens, without_parens, IsPath, IsSegment, a_path, a_word, a_word_with_arguments, Manner, loosely, End, closed, Parts, Readers, a_type, IsOptional, absent, present, NamedArg, Parenthesized, Path, PathArguments, PathSegment, TypeTree, named_arg_of}
 use Rattle.token_core.specs.Groups as groups
-use Rattle.token_core.specs.Listed.{AreListed, none_left, last_value, value_and_mark, Anywhere, Nowhere}
-use Rattle.token_core.specs.Loops.{Many, terminated}
-use Rattle.token_core.specs.Reads.{Reader, ◌>>=◌, in_group, is_done, leaves, optional, pure}
-use Rattle.token_core.specs.Rebuilt.{Visible}
-use Rattle.token_core.specs.Spellings.{IsMark}
-use Rattle.token_core.specs.Stream.{Stream}
 use Rattle.token_core.specs.Tokens as token
-use Rattle.token_core.specs.Toks.{Bytes, Toks, done}
 use Rattle.token_core.proofs.Listings.{listed_sound, listed_visible}
 use Rattle.token_core.proofs.Took.{branch, mapped, took_all}
 use Rattle.token_core.proofs.Turns.{chain, same_pair}
 use Rattle.syn_path.proofs.Words.{TookOne}
-use Rattle.syn_path.specs.declared.path.PathStyle.TheVariants.{AsWritten}
-use Rattle.syn_forms.specs.declared.places.TypePlace.{TypePlace}
-use Rattle.syn_forms.specs.declared.places.TypePlace.TheVariants.{Plus, NoPlus}
-use Rattle.syn_forms.specs.groups.Reading.{in_parens}
 use Rattle.syn_forms.specs.heads.Reading as heads
 use Rattle.syn_forms.specs.inputs.Reading.{signature}
 use Rattle.syn_forms.specs.lists.Reading.{made}
-use Rattle.syn_forms.specs.paths.Reading.{last_arguments, last_with, path_with, with_arguments}
-use Rattle.syn_forms.specs.tokens.Reading.{comma}
+use Rattle.syn_forms.specs.paths.Reading.{last_arguments, path_with}
 use Rattle.syn_forms.proofs.tokens_laws.Fronts.{nothing_left, took_as}
 use Rattle.syn_ty.specs.declared.path.PathArgumentsOf.TheVariants as a
-use Rattle.syn_ty.specs.path.Paths.{Sep, is_empty, no_arguments, parens_of}
-use Rattle.syn_ty.specs.path.Reading.{parenthesized, return_of, sees_signature, signed, takes_signature}
-use Rattle.syn_ty.specs.path.Signed.{AreSigned, IsBoundPath, IsDropped, IsInput, IsParens, IsSigned, a_pair_dropped, a_parens, a_sep_dropped, a_signed, an_input, nothing_dropped, signed_after, signed_last, with_parens, without_parens}
-use Rattle.syn_ty.specs.path.Spelling.{IsPath, IsSegment, a_path, a_word, a_word_with_arguments}
-use Rattle.syn_ty.specs.ty.Parts.{Manner, loosely, End, closed, Parts}
-use Rattle.syn_ty.specs.ty.Points.{Readers, a_type}
-use Rattle.syn_ty.specs.ty.Spelling.{IsOptional, absent, present}
-use Rattle.syn_ty.specs.ty.Trees.{NamedArg, Parenthesized, Path, PathArguments, PathSegment, TypeTree}
-use Rattle.syn_ty.specs.ty.Types.{named_arg_of}
 use Rattle.syn_ty.proofs.ty_laws.sound.Paths.{and_first, or_first, sep_took}
 use Rattle.syn_ty.proofs.ty_laws.sound.Leaves.{IsHeld, comma_seen, comma_took, held_sound, optional_sound}
 use Rattle.syn_ty.proofs.ty_laws.sound.Forms.{IsArrowed, Told, arrow_took, never_open, output_at}

@@ -1,30 +1,15 @@
 -- Where a trait bound is read, it is spelt by the rules of the whole grammar: modifiers, perhaps a binder before them or `?` behind them, never both, and a path.
 use Rattle.std.proofs.Common.{◌≡◌, Bool, true, false, Option, Some, None, Ok, refl, subst, arith}
-use Rattle.token_core.specs.Reads.{Reader, ◌>>=◌}
-use Rattle.token_core.specs.Rebuilt.{Visible}
-use Rattle.token_core.specs.Spellings.{IsMark}
-use Rattle.token_core.specs.Stream.{Stream}
+use Rattle.syn_ty.proofs.ty_laws.words.Tokens.{Reader, ◌>>=◌, Visible, IsMark, Stream, Toks}
+use Rattle.syn_ty.proofs.ty_laws.words.Paths.{AsWritten}
+use Rattle.syn_ty.proofs.ty_laws.words.Forms.{Binder, TypePlace, question}
+use Rattle.syn_ty.proofs.ty_laws.words.Types.{TraitBoundModifiers, AreModifiers, IsFor, IsTraitBound, a_trait_bound, a_trait, a_trait_for, a_trait_asked, trait_bound_of, binder_after, optional_binder, trait_after, trait_in, trait_of, is_empty, path, signed, IsBoundPath, Manner, loosely, End, Parts, Readers, a_param, a_type, some_arguments, IsOptional, absent, present, BoundLifetimes, GenericParam, Path, PathArguments, TraitBound, TypeTree}
 use Rattle.token_core.specs.Tokens as token
-use Rattle.token_core.specs.Toks.{Toks}
 use Rattle.token_core.proofs.MarkSpells.{mark_sound, mark_visible}
 use Rattle.token_core.proofs.Turns.{chain, same_pair}
 use Rattle.syn_path.proofs.Words.{TookOne}
-use Rattle.syn_path.specs.declared.path.PathStyle.TheVariants.{AsWritten}
-use Rattle.syn_forms.specs.declared.places.ParamPlace.TheVariants.{Binder}
-use Rattle.syn_forms.specs.declared.places.TypePlace.{TypePlace}
-use Rattle.syn_forms.specs.tokens.Reading.{question}
 use Rattle.syn_forms.proofs.tokens_laws.Fronts.{plainly}
-use Rattle.syn_ty.specs.declared.generics.TraitBoundModifiers.{TraitBoundModifiers}
-use Rattle.syn_ty.specs.generics.Bounds.{AreModifiers, IsFor, IsTraitBound, a_trait_bound, a_trait, a_trait_for, a_trait_asked}
-use Rattle.syn_ty.specs.generics.Params.{trait_bound_of}
-use Rattle.syn_ty.specs.generics.Reading.{binder_after, modifiers, optional_binder, trait_after, trait_in, trait_of}
-use Rattle.syn_ty.specs.path.Paths.{is_empty}
-use Rattle.syn_ty.specs.path.Reading.{path, signed}
-use Rattle.syn_ty.specs.path.Signed.{IsBoundPath}
-use Rattle.syn_ty.specs.ty.Parts.{Manner, loosely, End, Parts}
-use Rattle.syn_ty.specs.ty.Points.{Readers, a_param, a_type, some_arguments}
-use Rattle.syn_ty.specs.ty.Spelling.{IsOptional, absent, present}
-use Rattle.syn_ty.specs.ty.Trees.{BoundLifetimes, GenericParam, Path, PathArguments, TraitBound, TypeTree}
+use Rattle.syn_ty.specs.generics.Reading.{modifiers}
 use Rattle.syn_ty.proofs.generics_laws.Sound.{optional_took}
 use Rattle.syn_ty.proofs.ty_laws.sound.Modifiers.{modifiers_took}
 use Rattle.syn_ty.proofs.ty_laws.sound.Paths.{path_took}

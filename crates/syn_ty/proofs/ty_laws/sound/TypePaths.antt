@@ -1,43 +1,21 @@
 -- Where a type begins with a path, perhaps after a binder, it is spelt by the rules of the whole grammar: a path, a macro call, or a trait object that begins with the path.
 use Rattle.std.proofs.Common.{◌≡◌, Bool, true, false, ◌&&◌, ◌||◌, [], ◌∷◌, Option, Some, None, is_some, Ok, inl, inr, refl, sym, ◌∙◌, ap, subst}
-use Rattle.token_core.specs.Listed.{Anywhere}
-use Rattle.token_core.specs.Reads.{Reader, ◌>>=◌}
-use Rattle.token_core.specs.Rebuilt.{Visible}
-use Rattle.token_core.specs.Stream.{Stream}
+use Rattle.syn_ty.proofs.ty_laws.words.Tokens.{Anywhere, Reader, ◌>>=◌, Visible, Stream, Toks}
+use Rattle.syn_ty.proofs.ty_laws.words.Paths.{Macro, PathStyle, AsWritten, IsCall}
+use Rattle.syn_ty.proofs.ty_laws.words.Forms.{TypePlace, Plus, bounds_from, list_from, plus_follows, stops_bound, allows_plus, Object}
+use Rattle.syn_ty.proofs.ty_laws.words.Types.{IsFor, named_bound, is_none, no_arguments, nothing, without, is_mod_style, maybe_qualified, is_segment_word, IsAnyPath, IsPath, IsQualified, qualified, unqualified, IsType, a_path_type, a_macro, a_bound_macro, an_object_without_dyn, ends_lone, IsFirst, a_first, a_first_for, path_alone, path_and_plus, Manner, loosely, closed, Parts, Readers, a_bound, a_type, some_arguments, object_of, sees_call, IsOptional, absent, present, BoundLifetimes, Path, PathArguments, QSelf, TypeParamBound, TypeTree, macro_type_of, qualified_with}
 use Rattle.token_core.specs.Tokens as token
-use Rattle.token_core.specs.Toks.{Toks}
 use Rattle.token_core.proofs.Took.{branch, mapped}
 use Rattle.token_core.proofs.Turns.{chain, same_pair}
-use Rattle.syn_path.specs.declared.mac.Macro.{Macro}
-use Rattle.syn_path.specs.declared.path.PathStyle.{PathStyle}
-use Rattle.syn_path.specs.declared.path.PathStyle.TheVariants.{AsWritten}
 use Rattle.syn_path.specs.mac.Reading as macs
-use Rattle.syn_path.specs.mac.Spelling.{IsCall}
 use Rattle.syn_path.proofs.mac_laws.Sound.{call_sound}
 use Rattle.syn_path.proofs.Words.{TookOne}
-use Rattle.syn_forms.specs.declared.places.TypePlace.{TypePlace}
-use Rattle.syn_forms.specs.declared.places.TypePlace.TheVariants.{Plus}
-use Rattle.syn_forms.specs.lists.Reading.{bounds_from, list_from, plus_follows, stops_bound}
 use Rattle.syn_forms.specs.paths.Reading as paths
-use Rattle.syn_forms.specs.places.Reading.{allows_plus}
-use Rattle.syn_forms.specs.declared.places.BoundPlace.TheVariants.{Object}
 use Rattle.syn_forms.proofs.tokens_laws.Fronts.{took_as}
 use Rattle.syn_ty.specs.declared.generics.TypeParamBoundOf.TheVariants as b
 use Rattle.syn_ty.specs.declared.ty.TypeOf.TheVariants as v
-use Rattle.syn_ty.specs.generics.Bounds.{IsFor}
-use Rattle.syn_ty.specs.generics.Params.{named_bound}
-use Rattle.syn_ty.specs.path.Paths.{is_none, no_arguments, nothing, without}
-use Rattle.syn_ty.specs.path.Reading.{is_mod_style, maybe_qualified}
-use Rattle.syn_ty.specs.path.Spelling.{is_segment_word, IsAnyPath, IsPath, IsQualified, qualified, unqualified}
-use Rattle.syn_ty.specs.ty.Admitted.{IsType, a_path_type, a_macro, a_bound_macro, an_object_without_dyn}
-use Rattle.syn_ty.specs.ty.Objects.{ends_lone, IsFirst, a_first, a_first_for, path_alone, path_and_plus}
-use Rattle.syn_ty.specs.ty.Parts.{Manner, loosely, closed, Parts}
-use Rattle.syn_ty.specs.ty.Points.{Readers, a_bound, a_type, some_arguments}
 use Rattle.syn_ty.specs.ty.Reading as reading
-use Rattle.syn_ty.specs.ty.Reading.{object_of, sees_call}
-use Rattle.syn_ty.specs.ty.Spelling.{IsOptional, absent, present}
-use Rattle.syn_ty.specs.ty.Trees.{BoundLifetimes, Path, PathArguments, QSelf, TypeParamBound, TypeTree}
-use Rattle.syn_ty.specs.ty.Types.{macro_type_of, path_type_of, qualified_with}
+use Rattle.syn_ty.specs.ty.Types.{path_type_of}
 use Rattle.syn_ty.proofs.ty_laws.sound.Bounds.{word_ends}
 use Rattle.syn_ty.proofs.ty_laws.sound.Calls.{and_second, bare_path, call_seen}
 use Rattle.syn_ty.proofs.ty_laws.sound.FirstBound.{Bounds, Further, first_took}

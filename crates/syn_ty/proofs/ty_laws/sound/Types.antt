@@ -1,43 +1,18 @@
 -- Where a turn of types is read, what was taken is spelt by the rules of the whole grammar, over the same law of what a type holds.
 use Rattle.std.proofs.lemmas.Slice.Eq.{bytes_eq-Decides}
 use Rattle.std.proofs.Common.{◌≡◌, Bool, true, false, ◌||◌, List, Option, Some, None, is_some, Ok, inl, inr, refl, ap, subst}
-use Rattle.token_core.specs.declared.tree.Delimiter.TheVariants.{Parenthesis, Bracket}
-use Rattle.token_core.specs.Groups.{sees_invisible}
-use Rattle.token_core.specs.Keywords.{is_keyword}
-use Rattle.token_core.specs.Lifetimes.{sees_lifetime}
-use Rattle.token_core.specs.Loops.{Many}
-use Rattle.token_core.specs.Marks.{text_of}
-use Rattle.token_core.specs.Positions.{Item}
-use Rattle.token_core.specs.Reads.{Reader, Follows, is_text, sees_group, sees_mark, sees_word}
-use Rattle.token_core.specs.Rebuilt.{Visible}
-use Rattle.token_core.specs.Stream.{Stream}
+use Rattle.syn_ty.proofs.ty_laws.words.Tokens.{Parenthesis, Bracket, sees_invisible, is_keyword, sees_lifetime, Many, text_of, Item, Reader, Follows, is_text, sees_group, sees_mark, sees_word, Visible, Stream, Bytes, Toks, done, word, mark, lit, group, enter, leave}
+use Rattle.syn_ty.proofs.ty_laws.words.Paths.{is_mod_word, ReadValues, Along}
+use Rattle.syn_ty.proofs.ty_laws.words.Forms.{Binder, TypePlace, Plus, allows_plus, position}
+use Rattle.syn_ty.proofs.ty_laws.words.Types.{IsFor, binder, is_none, IsType, IsPointer, IsBorrow, an_impl_type, a_fn_type, a_ptr_type, a_reference_type, an_infer_type, a_never_type, an_object_without_dyn, IsFnPtr, AreBareBounds, IsImpl, Manner, loosely, End, closed, Parts, Readers, begins_named, object_of, sees_bindable, sees_builtin, sees_fn_ptr, sees_unsafe_binder, IsInfer, IsNever, IsOptional, absent, present, BoundLifetimes, PathArguments, TypeFnPtr, TypeImplTrait, TypeParamBound, TypeTree}
 use Rattle.token_core.specs.Tokens as token
-use Rattle.token_core.specs.Toks.{Bytes, Toks, done, word, mark, lit, group, enter, leave}
 use Rattle.token_core.proofs.Suffixes.{follows_self}
 use Rattle.token_core.proofs.Took.{branch, mapped}
 use Rattle.token_core.proofs.Turns.{chain}
 use Rattle.syn_path.proofs.Words.{TookOne}
-use Rattle.syn_path.specs.path.Spelling.{is_mod_word}
-use Rattle.syn_path.specs.Values.{ReadValues}
-use Rattle.syn_forms.specs.declared.places.ParamPlace.TheVariants.{Binder}
-use Rattle.syn_forms.specs.declared.places.TypePlace.{TypePlace}
-use Rattle.syn_forms.specs.declared.places.TypePlace.TheVariants.{Plus}
-use Rattle.syn_forms.specs.places.Reading.{allows_plus}
-use Rattle.syn_forms.specs.verbatim.Reading.{position}
 use Rattle.syn_forms.proofs.tokens_laws.Fronts.{plainly, took_as}
 use Rattle.syn_ty.specs.declared.ty.TypeOf.TheVariants as v
-use Rattle.syn_ty.specs.generics.Bounds.{IsFor}
-use Rattle.syn_ty.specs.generics.Reading.{binder}
-use Rattle.syn_ty.specs.path.Paths.{is_none}
-use Rattle.syn_ty.specs.ty.Admitted.{IsType, IsPointer, IsBorrow, an_impl_type, a_fn_type, a_ptr_type, a_reference_type, an_infer_type, a_never_type, an_object_without_dyn}
-use Rattle.syn_ty.specs.ty.Functions.{IsFnPtr}
-use Rattle.syn_ty.specs.ty.Objects.{AreBareBounds, IsImpl}
-use Rattle.syn_ty.specs.ty.Parts.{Manner, loosely, End, closed, Parts}
-use Rattle.syn_ty.specs.ty.Points.{Readers}
 use Rattle.syn_ty.specs.ty.Reading as reading
-use Rattle.syn_ty.specs.ty.Reading.{begins_named, object_of, sees_bindable, sees_builtin, sees_fn_ptr, sees_unsafe_binder}
-use Rattle.syn_ty.specs.ty.Spelling.{IsInfer, IsNever, IsOptional, absent, present}
-use Rattle.syn_ty.specs.ty.Trees.{BoundLifetimes, PathArguments, TypeFnPtr, TypeImplTrait, TypeParamBound, TypeTree}
 use Rattle.syn_ty.proofs.generics_laws.Sound.{binder_took}
 use Rattle.syn_ty.proofs.ty_laws.sound.Groups.{brackets_took}
 use Rattle.syn_ty.proofs.ty_laws.sound.Parens.{paren_took}
@@ -46,7 +21,6 @@ use Rattle.syn_ty.proofs.ty_laws.sound.Leaves.{infer_sound, never_sound, visible
 use Rattle.syn_ty.proofs.ty_laws.sound.Forms.{Told, borrow_took, both, never_open, pointer_took}
 use Rattle.syn_ty.proofs.ty_laws.sound.TypePaths.{Onward, named_took}
 use Rattle.syn_ty.proofs.ty_laws.sound.Verbatim.{builtin_type_took, unsafe_binder_took}
-use Rattle.syn_path.specs.Took.{Along}
 use Rattle.syn_ty.proofs.ty_laws.sound.Within.{Held, Supplied}
 
 -- ---- how a path begins

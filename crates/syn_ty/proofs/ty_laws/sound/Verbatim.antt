@@ -1,37 +1,21 @@
 -- Where a type is held as it was written, its tokens are those of a form without a case: what begins with `unsafe` and lifetimes, or with `builtin #`, perhaps after a binder.
 use Rattle.std.proofs.Common.{◌≡◌, true, false, List, Option, None, Ok, refl, sym, ◌∙◌, ap, subst, arith}
-use Rattle.token_core.specs.declared.lifetime.Lifetime.{Lifetime}
-use Rattle.token_core.specs.declared.span.DelimSpan.{DelimSpan}
-use Rattle.token_core.specs.declared.tree.Delimiter.TheVariants.{Parenthesis}
-use Rattle.token_core.specs.declared.tree.Ident.{Ident}
-use Rattle.token_core.specs.Trees.{TokenStream}
+use Rattle.syn_ty.proofs.ty_laws.words.Tokens.{Lifetime, DelimSpan, Parenthesis, Ident, TokenStream, read_lifetime, Item, Follows, Outcome, Reader, ◌<$>◌, and_then, any_text, builtin_text, closing, ident_name, is_ident, is_text, read_word, sees_word, Visible, IsMark, IsWord, IsLifetime, Stream, Toks, word, group}
+use Rattle.syn_ty.proofs.ty_laws.words.Paths.{Along}
+use Rattle.syn_ty.proofs.ty_laws.words.Forms.{TypePlace, outside, position, since}
+use Rattle.syn_ty.proofs.ty_laws.words.Types.{IsFor, IsType, a_verbatim_type, an_unsafe_binder, a_builtin, Manner, loosely, closed, Holds, Parts, Readers, a_type, last_place, sees_builtin, IsOptional, BoundLifetimes, TypeTree}
 use Rattle.token_core.specs.Cut.{between}
 use Rattle.token_core.specs.Groups as groups
-use Rattle.token_core.specs.Lifetimes.{read_lifetime}
-use Rattle.token_core.specs.Positions.{Item}
-use Rattle.token_core.specs.Reads.{Follows, Outcome, Reader, ◌<$>◌, and_then, any_text, builtin_text, closing, finished, ident_name, is_ident, is_text, open_group, read_word, sees_word}
-use Rattle.token_core.specs.Rebuilt.{Visible}
-use Rattle.token_core.specs.Spellings.{IsMark, IsWord, IsLifetime}
-use Rattle.token_core.specs.Stream.{Stream}
+use Rattle.token_core.specs.Reads.{finished, open_group}
 use Rattle.token_core.specs.Tokens as token
-use Rattle.token_core.specs.Toks.{Toks, word, group}
 use Rattle.token_core.proofs.MarkSpells.{mark_sound, mark_visible}
 use Rattle.token_core.proofs.Suffixes.{follows_trans}
 use Rattle.token_core.proofs.Took.{mapped, seen_word, took_word}
 use Rattle.token_core.proofs.Turns.{chain, same_pair}
-use Rattle.syn_forms.specs.declared.places.TypePlace.{TypePlace}
 use Rattle.syn_forms.specs.heads.Reading as heads
-use Rattle.syn_forms.specs.verbatim.Reading.{outside, position, since}
 use Rattle.syn_path.proofs.Groups.{took_inside}
 use Rattle.syn_ty.specs.declared.ty.TypeOf.TheVariants as v
-use Rattle.syn_ty.specs.generics.Bounds.{IsFor}
-use Rattle.syn_ty.specs.ty.Admitted.{IsType, a_verbatim_type, an_unsafe_binder, a_builtin}
-use Rattle.syn_ty.specs.ty.Parts.{Manner, loosely, closed, Holds, Parts}
-use Rattle.syn_ty.specs.ty.Points.{Readers, a_type}
 use Rattle.syn_ty.specs.ty.Reading as reading
-use Rattle.syn_ty.specs.ty.Reading.{last_place, sees_builtin}
-use Rattle.syn_ty.specs.ty.Spelling.{IsOptional}
-use Rattle.syn_ty.specs.ty.Trees.{BoundLifetimes, TypeTree}
 use Rattle.syn_ty.proofs.ty_laws.sound.Angles.{IsAngled, angled_took}
 use Rattle.syn_ty.proofs.ty_laws.sound.Groups.{left_before}
 use Rattle.syn_ty.proofs.ty_laws.sound.Held.{holds_since}
@@ -39,7 +23,6 @@ use Rattle.syn_ty.proofs.ty_laws.sound.Paths.{and_first}
 use Rattle.syn_ty.proofs.ty_laws.sound.Leaves.{life_sound, named_sound}
 use Rattle.syn_ty.proofs.ty_laws.sound.Forms.{Told, never_open}
 use Rattle.syn_ty.proofs.ty_laws.sound.TypePaths.{Onward}
-use Rattle.syn_path.specs.Took.{Along}
 use Rattle.syn_ty.proofs.ty_laws.sound.Within.{Held}
 
 -- the stream stays where it is

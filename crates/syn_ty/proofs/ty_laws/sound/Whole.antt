@@ -1,37 +1,17 @@
 -- Each whole read of this layer is sound: where it answers on a list without invisible groups and leaves nothing over, the answer spells the list by its promise.
 use Rattle.std.proofs.Common.{◌≡◌, Bool, false, List, None, Result, Ok, Err}
-use Rattle.token_core.specs.Reads.{Reader, Reads, leaves}
-use Rattle.token_core.specs.Rebuilt.{Visible}
-use Rattle.token_core.specs.Refusal.{Refusal}
-use Rattle.token_core.specs.Stream.{Stream}
-use Rattle.token_core.specs.Toks.{Toks}
-use Rattle.syn_path.specs.declared.path.PathStyle.TheVariants.{AsWritten}
-use Rattle.syn_path.specs.Values.{ReadValues, SpelledValues}
-use Rattle.syn_forms.specs.declared.places.BoundPlace.TheVariants.{Opaque}
-use Rattle.syn_forms.specs.declared.places.ParamPlace.TheVariants.{Binder}
-use Rattle.syn_forms.specs.declared.places.TypePlace.{TypePlace}
-use Rattle.syn_forms.specs.declared.places.TypePlace.TheVariants.{NoPlus}
-use Rattle.syn_forms.specs.places.Reading.{allows_plus}
+use Rattle.syn_ty.proofs.ty_laws.words.Tokens.{Reader, Reads, leaves, Visible, Refusal, Stream, Toks}
+use Rattle.syn_ty.proofs.ty_laws.words.Paths.{AsWritten, ReadValues, SpelledValues, AttributeLaws, TookOne}
+use Rattle.syn_ty.proofs.ty_laws.words.Forms.{Opaque, Binder, TypePlace, NoPlus, allows_plus}
+use Rattle.syn_ty.proofs.ty_laws.words.Types.{IsBound, IsCapture, IsCaptured, IsFor, IsTraitBound, IsConstParam, IsParam, IsTypeParam, IsParens, IsReturn, IsAngle, IsPath, IsSegment, IsBorrow, IsBracketed, IsCounted, IsEnclosed, IsPointer, IsTupled, IsType, IsAbi, IsFnPtr, IsNamedArg, IsImpl, IsObject, loosely, LifetimeParamOf, IsOptional, IsPathAlone}
 use Rattle.syn_forms.proofs.tokens_laws.Fronts.{took_whole}
-use Rattle.syn_ty.specs.generics.Bounds.{IsBound, IsCapture, IsCaptured, IsFor, IsTraitBound}
-use Rattle.syn_ty.specs.generics.Parameters.{IsConstParam, IsParam, IsTypeParam}
 use Rattle.syn_ty.specs.generics.Reading as parts
-use Rattle.syn_ty.specs.path.Signed.{IsParens, IsReturn}
-use Rattle.syn_ty.specs.path.Spelling.{IsAngle, IsPath, IsSegment}
-use Rattle.syn_ty.specs.ty.Admitted.{IsBorrow, IsBracketed, IsCounted, IsEnclosed, IsPointer, IsTupled, IsType}
 use Rattle.syn_ty.specs.ty.Fronts as fronts
-use Rattle.syn_ty.specs.ty.Functions.{IsAbi, IsFnPtr, IsNamedArg}
 use Rattle.syn_ty.specs.ty.Knot as knot
-use Rattle.syn_ty.specs.ty.Objects.{IsImpl, IsObject}
-use Rattle.syn_ty.specs.ty.Parts.{loosely}
 use Rattle.syn_ty.specs.ty.Reading as reading
-use Rattle.syn_path.specs.Lengths.{AttributeLaws}
-use Rattle.syn_path.specs.Took.{Takes, TookOne}
-use Rattle.syn_ty.specs.declared.generics.LifetimeParamOf.{LifetimeParamOf}
+use Rattle.syn_path.specs.Took.{Takes}
 use Rattle.syn_ty.proofs.ty_laws.sound.Params as params
-use Rattle.syn_ty.specs.ty.Spelling.{IsOptional}
 use Rattle.syn_ty.specs.ty.Spelt as by
-use Rattle.syn_ty.specs.ty.Spelt.{IsPathAlone}
 use Rattle.syn_ty.proofs.ty_laws.sound.Alone as alone
 use Rattle.syn_ty.proofs.ty_laws.sound.Alone.{all_ending, all_of}
 use Rattle.syn_ty.proofs.ty_laws.sound.Bound.{capture_took, captured_took}

@@ -1,19 +1,9 @@
 -- What is known of the reads that a form holds: each took what its answer spells, and stands further on; and the same of attributes and expressions.
 use Rattle.std.proofs.Common.{◌≡◌, true, List, None, Ok}
-use Rattle.token_core.specs.Reads.{Reader, leaves}
-use Rattle.token_core.specs.Rebuilt.{Visible}
-use Rattle.token_core.specs.Stream.{Stream}
-use Rattle.token_core.specs.Toks.{Toks}
-use Rattle.syn_path.specs.Took.{Along, TookOne}
-use Rattle.syn_path.specs.Values.{ReadValues}
-use Rattle.syn_forms.specs.declared.places.BoundPlace.{BoundPlace}
-use Rattle.syn_forms.specs.declared.places.ParamPlace.{ParamPlace}
-use Rattle.syn_forms.specs.declared.places.TypePlace.{TypePlace}
-use Rattle.syn_ty.specs.path.Paths.{is_empty}
-use Rattle.syn_ty.specs.path.Reading.{sees_const}
-use Rattle.syn_ty.specs.ty.Parts.{Manner, loosely, Parts}
-use Rattle.syn_ty.specs.ty.Points.{Point, Readers, a_bound, a_param, a_type, an_argument, some_arguments}
-use Rattle.syn_ty.specs.ty.Trees.{GenericArgument, GenericParam, PathArguments, TypeParamBound, TypeTree}
+use Rattle.syn_ty.proofs.ty_laws.words.Tokens.{Reader, leaves, Visible, Stream, Toks}
+use Rattle.syn_ty.proofs.ty_laws.words.Paths.{Along, TookOne, ReadValues}
+use Rattle.syn_ty.proofs.ty_laws.words.Forms.{BoundPlace, ParamPlace, TypePlace}
+use Rattle.syn_ty.proofs.ty_laws.words.Types.{is_empty, sees_const, Manner, loosely, Parts, Point, Readers, a_bound, a_param, a_type, an_argument, some_arguments, GenericArgument, GenericParam, PathArguments, TypeParamBound, TypeTree}
 use Rattle.syn_ty.proofs.ty_laws.sound.Signed.{EmptyPair}
 use Rattle.syn_ty.proofs.ty_laws.sound.Forms.{Told}
 

@@ -6,10 +6,10 @@ use Rattle.syn_run.proofs.items.ItemReader.reprint_over.Goals as goal
 
 pub returns-in-Struct : goal.returns-in-Struct
 returns-in-Struct g c =
-    let C = items_category g.A.Attributes.reads g.E.Value.reads g.A.Attributes.spells g.E.Value.spells g.A.Attributes.normal g.E.Value.normal g.A.Attributes.shown g.E.Value.values i.Struct in
+    let C = items_category g.A.Attributes g.E.Value i.Struct in
     rw c.in-Struct.is (prints-reprints C c.args.scope (toks c.args.tokens) c.reprint.result c.reprint.ensures)
 
 pub returns-in-Head : goal.returns-in-Head
 returns-in-Head g c =
-    let C = items_category g.A.Attributes.reads g.E.Value.reads g.A.Attributes.spells g.E.Value.spells g.A.Attributes.normal g.E.Value.normal g.A.Attributes.shown g.E.Value.values i.Head in
+    let C = items_category g.A.Attributes g.E.Value i.Head in
     rw c.in-Head.is (prints-reprints C c.args.scope (toks c.args.tokens) c.reprint_head.result c.reprint_head.ensures)

@@ -6,5 +6,5 @@ use Rattle.syn_run.proofs.readers.PatternReader.reprint_over.Goals as goal
 
 pub returns : goal.returns
 returns g c =
-    let C = patterns_category g.X.Subtree.reads g.X.Subtree.spells g.X.Subtree.normal g.X.Subtree.prints c.args.self in
-    shows-reprints C c.args.scope (toks c.args.tokens) (pattern-keeps g.X.Subtree.reads g.X.Subtree.spells g.X.Subtree.normal g.X.Subtree.prints g.met.X.Subtree.steady g.met.X.Subtree.sound g.met.X.Subtree.complete g.met.X.Subtree.reprint g.met.X.Subtree.apart c.args.self c.args.scope (toks c.args.tokens)) (pattern-refuses g.X.Subtree.reads g.X.Subtree.spells g.X.Subtree.normal g.X.Subtree.prints g.met.X.Subtree.steady g.met.X.Subtree.sound g.met.X.Subtree.complete g.met.X.Subtree.reprint g.met.X.Subtree.apart c.args.self c.args.scope (toks c.args.tokens)) c.taken.result c.taken.ensures.reads
+    let C = patterns_category g.X.Subtree c.args.self in
+    shows-reprints C c.args.scope (toks c.args.tokens) (pattern-keeps g.X.Subtree g.met.X.Subtree.steady g.met.X.Subtree.sound g.met.X.Subtree.complete g.met.X.Subtree.reprint g.met.X.Subtree.apart c.args.self c.args.scope (toks c.args.tokens)) (pattern-refuses g.X.Subtree g.met.X.Subtree.steady g.met.X.Subtree.sound g.met.X.Subtree.complete g.met.X.Subtree.reprint g.met.X.Subtree.apart c.args.self c.args.scope (toks c.args.tokens)) c.taken.result c.taken.ensures.reads

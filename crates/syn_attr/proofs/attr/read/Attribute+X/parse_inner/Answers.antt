@@ -4,7 +4,7 @@ use Rattle.syn_attr.proofs.attr_laws.Laws.{inner_lawful, inner_front}
 use Rattle.syn_attr.proofs.attr.read.Attribute+X.parse_inner.Goals as goal
 
 pub returns-clause-headline : goal.returns-clause-headline
-returns-clause-headline g c = heads (grammars.inner g.X.Subtree.reads g.X.Subtree.spells g.X.Subtree.normal g.X.Subtree.prints) (inner_lawful g.X.Subtree.reads g.X.Subtree.spells g.X.Subtree.normal g.X.Subtree.prints g.met.X.Subtree.sound g.met.X.Subtree.complete g.met.X.Subtree.reprint g.met.X.Subtree.apart) _ _ _ c.parse_inners.ensures.parses.0
+returns-clause-headline g c = heads (grammars.inner g.X.Subtree) (inner_lawful g.X.Subtree g.met.X.Subtree.sound g.met.X.Subtree.complete g.met.X.Subtree.reprint g.met.X.Subtree.apart) _ _ _ c.parse_inners.ensures.parses.0
 
 pub returns-clause-front : goal.returns-clause-front
-returns-clause-front g c = inner_front g.X.Subtree.reads g.X.Subtree.spells g.X.Subtree.normal g.X.Subtree.prints g.met.X.Subtree.sound g.met.X.Subtree.complete g.met.X.Subtree.reprint g.met.X.Subtree.apart _ _ _ c.parse_inners.ensures.parses.0
+returns-clause-front g c = inner_front g.X.Subtree g.met.X.Subtree.sound g.met.X.Subtree.complete g.met.X.Subtree.reprint g.met.X.Subtree.apart _ _ _ c.parse_inners.ensures.parses.0

@@ -4,4 +4,4 @@ use Rattle.syn_attr.proofs.attr_laws.Laws.{name_value_lawful}
 use Rattle.syn_attr.proofs.attr.read.MetaNameValueParse.parse.Goals as goal
 
 pub returns-clause-promise : goal.returns-clause-promise
-returns-clause-promise g c = heads (grammars.name_value g.X.Subtree.reads g.X.Subtree.spells g.X.Subtree.normal g.X.Subtree.prints) (name_value_lawful g.X.Subtree.reads g.X.Subtree.spells g.X.Subtree.normal g.X.Subtree.prints g.met.X.Subtree.sound g.met.X.Subtree.complete g.met.X.Subtree.reprint g.met.X.Subtree.apart) _ _ _ c.parse_meta_name_value.ensures.parses.0
+returns-clause-promise g c = heads (grammars.name_value g.X.Subtree) (name_value_lawful g.X.Subtree g.met.X.Subtree.sound g.met.X.Subtree.complete g.met.X.Subtree.reprint g.met.X.Subtree.apart) _ _ _ c.parse_meta_name_value.ensures.parses.0

@@ -4,4 +4,4 @@ use Rattle.syn_attr.proofs.attr_laws.Laws.{meta_lawful}
 use Rattle.syn_attr.proofs.attr.read.MetaParse.parse.Goals as goal
 
 pub returns-clause-promise : goal.returns-clause-promise
-returns-clause-promise g c = heads (grammars.meta g.X.Subtree.reads g.X.Subtree.spells g.X.Subtree.normal g.X.Subtree.prints) (meta_lawful g.X.Subtree.reads g.X.Subtree.spells g.X.Subtree.normal g.X.Subtree.prints g.met.X.Subtree.sound g.met.X.Subtree.complete g.met.X.Subtree.reprint g.met.X.Subtree.apart) _ _ _ c.parse_meta.ensures.parses.0
+returns-clause-promise g c = heads (grammars.meta g.X.Subtree) (meta_lawful g.X.Subtree g.met.X.Subtree.sound g.met.X.Subtree.complete g.met.X.Subtree.reprint g.met.X.Subtree.apart) _ _ _ c.parse_meta.ensures.parses.0

@@ -8,7 +8,7 @@ use Rattle.syn_pat.proofs.pat_laws.sound.Knot.{pat_took}
 use Rattle.syn_pat.proofs.pat.read.Pat+X.parse_multi.Goals as goal
 
 pub returns-clause-promise : goal.returns-clause-promise
-returns-clause-promise g c = heads (promises.pat g.X.Subtree.reads g.X.Subtree.spells g.X.Subtree.normal g.X.Subtree.prints Multi) (pat_lawful g.X.Subtree.reads g.X.Subtree.spells g.X.Subtree.normal g.X.Subtree.prints g.met.X.Subtree.steady g.met.X.Subtree.sound g.met.X.Subtree.complete g.met.X.Subtree.reprint g.met.X.Subtree.apart Multi) _ _ _ c.parse_in.ensures.parses.0
+returns-clause-promise g c = heads (promises.pat g.X.Subtree Multi) (pat_lawful g.X.Subtree g.met.X.Subtree.steady g.met.X.Subtree.sound g.met.X.Subtree.complete g.met.X.Subtree.reprint g.met.X.Subtree.apart Multi) _ _ _ c.parse_in.ensures.parses.0
 
 pub returns-clause-front : goal.returns-clause-front
 returns-clause-front g c = takes (pat_took g.X.Subtree.reads g.X.Subtree.spells (supplied g.X.Subtree.reads g.X.Subtree.spells g.X.Subtree.normal g.X.Subtree.prints g.met.X.Subtree.steady g.met.X.Subtree.sound g.met.X.Subtree.complete g.met.X.Subtree.reprint) Multi) _ _ _ c.parse_in.ensures.parses.0

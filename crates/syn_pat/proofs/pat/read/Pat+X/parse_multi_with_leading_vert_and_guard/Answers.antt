@@ -4,4 +4,4 @@ use Rattle.syn_pat.proofs.pat_laws.GivenLaws.{guarded_lawful}
 use Rattle.syn_pat.proofs.pat.read.Pat+X.parse_multi_with_leading_vert_and_guard.Goals as goal
 
 pub returns-clause-promise : goal.returns-clause-promise
-returns-clause-promise g c = heads (promises.guarded g.X.Subtree.reads g.X.Subtree.spells g.X.Subtree.normal g.X.Subtree.prints) (guarded_lawful g.X.Subtree.reads g.X.Subtree.spells g.X.Subtree.normal g.X.Subtree.prints g.met.X.Subtree.steady g.met.X.Subtree.sound g.met.X.Subtree.complete g.met.X.Subtree.reprint g.met.X.Subtree.apart) _ _ _ c.parse_guarded.ensures.parses.0
+returns-clause-promise g c = heads (promises.guarded g.X.Subtree) (guarded_lawful g.X.Subtree g.met.X.Subtree.steady g.met.X.Subtree.sound g.met.X.Subtree.complete g.met.X.Subtree.reprint g.met.X.Subtree.apart) _ _ _ c.parse_guarded.ensures.parses.0

@@ -8,7 +8,7 @@ use Rattle.syn_ty.proofs.ty_laws.sound.Alone.{optional_binder_took}
 use Rattle.syn_ty.proofs.generics.read.BoundLifetimesOf+GenericParamOf+A+E.parse_optional.Goals as goal
 
 pub returns-clause-promise : goal.returns-clause-promise
-returns-clause-promise g c = heads (promises.optional_binder g.A.Attributes.reads g.E.Value.reads g.A.Attributes.spells g.E.Value.spells g.A.Attributes.normal g.E.Value.normal g.A.Attributes.shown g.E.Value.values) (optional_binder_lawful (given g.met.A.Attributes.told g.met.E.Value.consts g.met.E.Value.lengths) (given_meets g.met.A.Attributes.met g.met.E.Value.met g.met.E.Value.lengths) (given_again g.met.A.Attributes.met g.met.E.Value.met g.met.E.Value.lengths g.met.A.Attributes.bare)) _ _ _ c.parse_optional_binder.ensures.parses.0
+returns-clause-promise g c = heads (promises.optional_binder g.A.Attributes g.E.Value) (optional_binder_lawful g.A.Attributes g.E.Value (given g.met.A.Attributes.told g.met.E.Value.consts g.met.E.Value.lengths) (given_meets g.met.A.Attributes.met g.met.E.Value.met g.met.E.Value.lengths) (given_again g.met.A.Attributes.met g.met.E.Value.met g.met.E.Value.lengths g.met.A.Attributes.bare)) _ _ _ c.parse_optional_binder.ensures.parses.0
 
 pub returns-clause-front : goal.returns-clause-front
 returns-clause-front g c = takes (optional_binder_took (given g.met.A.Attributes.told g.met.E.Value.consts g.met.E.Value.lengths)) _ _ _ c.parse_optional_binder.ensures.parses.0

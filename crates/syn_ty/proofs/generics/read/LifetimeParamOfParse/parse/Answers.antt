@@ -6,7 +6,7 @@ use Rattle.syn_ty.proofs.ty_laws.GivenWhole.{attributes_again, attributes_met}
 use Rattle.syn_ty.proofs.generics.read.LifetimeParamOfParse.parse.Goals as goal
 
 pub returns-clause-promise : goal.returns-clause-promise
-returns-clause-promise g c = heads (promises.lifetime_param g.A.Attributes.reads g.A.Attributes.spells g.A.Attributes.normal g.A.Attributes.shown) (lifetime_param_lawful g.A.Attributes.reads g.A.Attributes.spells g.A.Attributes.normal g.A.Attributes.shown g.met.A.Attributes.told (attributes_met g.met.A.Attributes.met) (attributes_again g.met.A.Attributes.met)) _ _ _ c.lifetime_param.ensures.parses.0
+returns-clause-promise g c = heads (promises.lifetime_param g.A.Attributes) (lifetime_param_lawful g.A.Attributes g.met.A.Attributes.told (attributes_met g.met.A.Attributes.met) (attributes_again g.met.A.Attributes.met)) _ _ _ c.lifetime_param.ensures.parses.0
 
 pub returns-clause-front : goal.returns-clause-front
 returns-clause-front g c = takes (lifetime_param_took g.met.A.Attributes.told) _ _ _ c.lifetime_param.ensures.parses.0

@@ -8,7 +8,7 @@ use Rattle.syn_ty.proofs.ty_laws.sound.Alone.{parenthesized_took}
 use Rattle.syn_ty.proofs.path.read.ParenthesizedGenericArgumentsOfTypeOfParse.parse.Goals as goal
 
 pub returns-clause-promise : goal.returns-clause-promise
-returns-clause-promise g c = heads (promises.parenthesized g.A.Attributes.reads g.E.Value.reads g.A.Attributes.spells g.E.Value.spells g.A.Attributes.normal g.E.Value.normal g.A.Attributes.shown g.E.Value.values) (parenthesized_lawful (given g.met.A.Attributes.told g.met.E.Value.consts g.met.E.Value.lengths) (given_meets g.met.A.Attributes.met g.met.E.Value.met g.met.E.Value.lengths) (given_again g.met.A.Attributes.met g.met.E.Value.met g.met.E.Value.lengths g.met.A.Attributes.bare)) _ _ _ c.parse_parenthesized.ensures.parses.0
+returns-clause-promise g c = heads (promises.parenthesized g.A.Attributes g.E.Value) (parenthesized_lawful g.A.Attributes g.E.Value (given g.met.A.Attributes.told g.met.E.Value.consts g.met.E.Value.lengths) (given_meets g.met.A.Attributes.met g.met.E.Value.met g.met.E.Value.lengths) (given_again g.met.A.Attributes.met g.met.E.Value.met g.met.E.Value.lengths g.met.A.Attributes.bare)) _ _ _ c.parse_parenthesized.ensures.parses.0
 
 pub returns-clause-front : goal.returns-clause-front
 returns-clause-front g c = takes (parenthesized_took (given g.met.A.Attributes.told g.met.E.Value.consts g.met.E.Value.lengths)) _ _ _ c.parse_parenthesized.ensures.parses.0

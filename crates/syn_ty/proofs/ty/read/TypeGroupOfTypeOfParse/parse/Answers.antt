@@ -8,7 +8,7 @@ use Rattle.syn_ty.proofs.ty_laws.sound.Alone.{no_group}
 use Rattle.syn_ty.proofs.ty.read.TypeGroupOfTypeOfParse.parse.Goals as goal
 
 pub returns-clause-promise : goal.returns-clause-promise
-returns-clause-promise g c = heads (promises.group g.A.Attributes.reads g.E.Value.reads g.A.Attributes.spells g.E.Value.spells g.A.Attributes.normal g.E.Value.normal g.A.Attributes.shown g.E.Value.values) (group_lawful (given g.met.A.Attributes.told g.met.E.Value.consts g.met.E.Value.lengths) (given_meets g.met.A.Attributes.met g.met.E.Value.met g.met.E.Value.lengths) (given_again g.met.A.Attributes.met g.met.E.Value.met g.met.E.Value.lengths g.met.A.Attributes.bare)) _ _ _ c.parse_group.ensures.parses.0
+returns-clause-promise g c = heads (promises.group g.A.Attributes g.E.Value) (group_lawful g.A.Attributes g.E.Value (given g.met.A.Attributes.told g.met.E.Value.consts g.met.E.Value.lengths) (given_meets g.met.A.Attributes.met g.met.E.Value.met g.met.E.Value.lengths) (given_again g.met.A.Attributes.met g.met.E.Value.met g.met.E.Value.lengths g.met.A.Attributes.bare)) _ _ _ c.parse_group.ensures.parses.0
 
 pub returns-clause-front : goal.returns-clause-front
 returns-clause-front g c = takes {Is = λ x l r. ⊥} (λ s t x v e. absurd (no_group (given g.met.A.Attributes.told g.met.E.Value.consts g.met.E.Value.lengths) s t x v e)) _ _ _ c.parse_group.ensures.parses.0

@@ -9,7 +9,7 @@ use Rattle.syn_forms.specs.declared.places.TypePlace.TheVariants.{Plus}
 use Rattle.syn_ty.proofs.ty.read.TypeTraitObjectOfTypeParamBoundOfParse.parse.Goals as goal
 
 pub returns-clause-promise : goal.returns-clause-promise
-returns-clause-promise g c = heads (promises.trait_object g.A.Attributes.reads g.E.Value.reads g.A.Attributes.spells g.E.Value.spells g.A.Attributes.normal g.E.Value.normal g.A.Attributes.shown g.E.Value.values Plus) (trait_object_lawful (given g.met.A.Attributes.told g.met.E.Value.consts g.met.E.Value.lengths) (given_meets g.met.A.Attributes.met g.met.E.Value.met g.met.E.Value.lengths) (given_again g.met.A.Attributes.met g.met.E.Value.met g.met.E.Value.lengths g.met.A.Attributes.bare) Plus) _ _ _ c.parse_trait_object.ensures.parses.0
+returns-clause-promise g c = heads (promises.trait_object g.A.Attributes g.E.Value Plus) (trait_object_lawful g.A.Attributes g.E.Value (given g.met.A.Attributes.told g.met.E.Value.consts g.met.E.Value.lengths) (given_meets g.met.A.Attributes.met g.met.E.Value.met g.met.E.Value.lengths) (given_again g.met.A.Attributes.met g.met.E.Value.met g.met.E.Value.lengths g.met.A.Attributes.bare) Plus) _ _ _ c.parse_trait_object.ensures.parses.0
 
 pub returns-clause-front : goal.returns-clause-front
 returns-clause-front g c = takes (trait_object_took (given g.met.A.Attributes.told g.met.E.Value.consts g.met.E.Value.lengths) Plus) _ _ _ c.parse_trait_object.ensures.parses.0
