@@ -73,7 +73,7 @@ module _ {X : Type 0} (sub : Subtree X) where
   abbrev pub expressions_in : Expressions (Expr X)
   expressions_in = given.expressions sub
 
-  -- what a reader sub.reads, sub.prints and promises
+  -- what a reader reads, prints and promises
   abbrev pub category : (r : Reader) → Category (Tree X r)
   category Macro = of_grammar macs.mac
   category ModStyle = of_grammar (paths.mod_style path.nothing (λ a. []))

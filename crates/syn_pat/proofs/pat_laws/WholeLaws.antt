@@ -26,7 +26,7 @@ module _ {X : Type 0} (sub : Subtree X)
     (reprint : (p : Place) (x : X) (l : Toks) → sub.spells p x l → Reprints (sub.spells p) (sub.normal p) (sub.prints p) x l)
     (meets : GivenMeets (outer sub.reads) (values sub.reads) (outer_spelt sub.spells) (values_spelt sub.spells))
     (types : GivenAgain (normal.attrs sub.normal) (normal_values_of sub.normal) (printing.attrs sub.prints) (values_of sub.prints) (outer_spelt sub.spells) (values_spelt sub.spells)) where
-  -- the print of a subtree sub.spells its normal form, and that of this one
+  -- the print of a subtree spells its normal form, and that of this one
   supplied_stays : (w : Place) (x : X) (l : Toks) → sub.spells w x l → sub.normal w (sub.normal w x) ≡ sub.normal w x
   supplied_stays w x l i =
       let r = reprint w x l i in
