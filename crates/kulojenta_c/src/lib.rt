@@ -5,9 +5,8 @@ ghost use Rattle.std.specs.Prelude.{◌≡◌};
 ghost use Rattle.syn_run.specs.Calls.{Notes, Reads};
 ghost use Rattle.syn_run.specs.Readers.{category};
 ghost use Rattle.syn_run.specs.declared.call.Call.{Call};
-ghost use Rattle.syn_verbatim.specs.Reading as reading;
-ghost use Rattle.syn_verbatim.specs.Spelling as spelling;
 ghost use Rattle.kulojenta_c.specs.Reports.{call_of};
+ghost use Rattle.kulojenta_c.specs.Tokens.{verbatim};
 
 use std::alloc::Global;
 use syn_run::call::{Call, note_into, read_into};
@@ -33,8 +32,7 @@ pub extern "C" fn kulojenta_read(
     out: &mut [u8],
     report: &mut Report,
 ) -> u32
-    ensures { Reads (category reading.at_place spelling.spells (λ _ x. x) (λ _. spelling.print)) reader.now text.now
-        out.old out.new (call_of result report.new) }
+    ensures { Reads (category verbatim) reader.now text.now out.old out.new (call_of result report.new) }
 {
     told(read_into::<VerbatimExpr>(alloc, reader, text, out), report)
 }
