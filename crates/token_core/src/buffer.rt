@@ -51,7 +51,7 @@ impl<'a> Entry<'a> {
 }
 
 /// Past the bounds of invisible groups at the front.
-fn past_bounds<'a>(entries: &'a [Entry<'a>]) -> &'a [Entry<'a>]
+pub(crate) fn past_bounds<'a>(entries: &'a [Entry<'a>]) -> &'a [Entry<'a>]
     ensures shown { entries_view result.now ≡ spec.front (entries_view entries.now) }
     ensures nested { Nested (map saw entries.now) → Nested (map saw result.now) }
 {
@@ -117,9 +117,9 @@ fn tree_front<'a>(tree: &'a TokenTree, n: usize, more: &'a [Entry<'a>]) -> Front
     ensures linked { Linked result }
 {
     match tree {
-        TokenTree::Ident(ident) => Front::Word(ident, Place { entries: more }),
-        TokenTree::Punct(punct) => Front::Mark(*punct, Place { entries: more }),
-        TokenTree::Literal(literal) => Front::Literal(literal, Place { entries: more }),
+        TokenTree::Ident(ident) => Front::Word(ident, Place::of(more)),
+        TokenTree::Punct(punct) => Front::Mark(*punct, Place::of(more)),
+        TokenTree::Literal(literal) => Front::Literal(literal, Place::of(more)),
         TokenTree::Group(group) => group_front(group, n, more),
     }
 }
@@ -136,7 +136,7 @@ fn group_front<'a>(group: &'a Group, n: usize, more: &'a [Entry<'a>]) -> Front<'
         Delimiter::None => Front::Done,
         _ => {
             let (inside, after) = around(n, more);
-            Front::Group(group, Place { entries: inside }, Place { entries: after })
+            Front::Group(group, Place::of(inside), Place::of(after))
         }
     }
 }
@@ -192,7 +192,7 @@ fn invisible_group<'a>(
     match group.delimiter() {
         Delimiter::None => {
             let (inside, after) = around(n, more);
-            Some((group, Place { entries: inside }, Place { entries: after }))
+            Some((group, Place::of(inside), Place::of(after)))
         }
         _ => None,
     }
@@ -252,6 +252,17 @@ fn after<'a>(entry: &Entry<'a>, more: &'a [Entry<'a>]) -> &'a [Entry<'a>]
     past(entry.class, entry.content, more)
 }
 
+/// The class of the first entry.
+fn first_class(entries: &[Entry<'_>]) -> Class
+    ensures { result ≡ sees.first_class (map saw entries.now) }
+{
+    if entries.len() == 0 {
+        Class::End
+    } else {
+        entries[0].class()
+    }
+}
+
 /// The class of the first entry, and what follows its tree.
 #[tactic(auto, using(crate::proofs::Fronts::views))]
 fn stepped<'a>(entries: &'a [Entry<'a>]) -> (Class, &'a [Entry<'a>])
@@ -285,7 +296,7 @@ impl<'a> Place<'a> {
         ensures shown { shows result ≡ spec.front self.now }
         ensures linked { Linked result }
     {
-        settled(past_bounds(self.entries))
+        settled(self.front)
     }
 
     /// The class of what stands at the front, and what follows its tree.
@@ -293,8 +304,15 @@ impl<'a> Place<'a> {
         ensures class { result.0 ≡ sees.class_at (spec.front self.now) }
         ensures more { result.1 ≡ sees.rest_of (spec.front self.now) }
     {
-        let (class, entries) = stepped(past_bounds(self.entries));
-        (class, Place { entries })
+        let (class, entries) = stepped(self.front);
+        (class, Place::of(entries))
+    }
+
+    /// The class at the front.
+    pub(crate) fn front_class(&self) -> Class
+        ensures { result ≡ sees.class_at (spec.front self.now) }
+    {
+        first_class(self.front)
     }
 
     /// Whether an invisible group is at the front, after the ends of others.
@@ -318,9 +336,7 @@ impl<'a> Place<'a> {
     pub(crate) fn past_ends(&self) -> Place<'a>
         ensures { result ≡ spec.past_ends self.now }
     {
-        Place {
-            entries: past_ends(self.entries),
-        }
+        Place::of(past_ends(self.entries))
     }
 
     /// The invisible group at the front, after the ends of others, with its content and what follows it.
@@ -376,9 +392,7 @@ impl<'a> TokenBuffer<'a> {
     pub(crate) fn place<'b>(&'b self) -> Place<'b>
         ensures { result ≡ self.now }
     {
-        Place {
-            entries: self.entries.as_slice(),
-        }
+        Place::of(self.entries.as_slice())
     }
 }
 

@@ -1,9 +1,11 @@
 //! Where a stream stands in its buffer.
 
-ghost use Rattle.std.specs.Prelude.{◌≡◌, [], ◌∷◌, ◌++◌, length};
+ghost use Rattle.std.specs.Prelude.{◌≡◌, [], ◌∷◌, ◌++◌, length, map};
+ghost use Rattle.token_core.specs.Entries.{entries_view, saw, Nested};
 ghost use Rattle.token_core.specs.Positions.{items, an_end, Holds};
 ghost use Rattle.token_core.specs.Reads.{IsSuffix};
 
+use crate::buffer::past_bounds;
 use crate::class::Entry;
 use crate::cursor::Cursor;
 use std::marker::Model;
@@ -12,6 +14,7 @@ use std::marker::Model;
 #[derive(Drop)]
 pub(crate) struct Place<'a> {
     pub(crate) entries: &'a [Entry<'a>],
+    pub(crate) front: &'a [Entry<'a>],
 }
 
 impl<'a> Model for Place<'a> {
@@ -24,11 +27,14 @@ impl<'a> Model for Place<'a> {
     ghost coded = { toks_code };
 
     ghost use Rattle.token_core.specs.Entries.{entries_view, saw, Nested};
+    ghost use Rattle.token_core.specs.Front as spec;
+    ghost use Rattle.std.specs.Prelude.{◌≡◌};
 
     ghost view = { λ p. entries_view p.entries.now };
 
-    // each group's entry is followed by those of its content
-    ghost invariant = { λ p. Nested (map saw p.entries.now) };
+    // each group's entry is followed by those of its content; the front is past the bounds of invisible groups
+    ghost invariant = { λ p. Nested (map saw p.entries.now) × (Nested (map saw p.front.now) × (entries_view p.front.now
+        ≡ spec.front (entries_view p.entries.now))) };
 }
 
 impl<'a> Place<'a> {
@@ -38,7 +44,17 @@ impl<'a> Place<'a> {
     {
         Place {
             entries: self.entries,
+            front: self.front,
         }
+    }
+
+    /// At these entries.
+    pub(crate) fn of(entries: &'a [Entry<'a>]) -> Place<'a>
+        requires { Nested (map saw entries.now) }
+        ensures { result ≡ entries_view entries.now }
+    {
+        let front = past_bounds(entries);
+        Place { entries, front }
     }
 
     /// How many entries are left in the scope.

@@ -181,8 +181,14 @@ fn sees_chars(at: Place<'_>, chars: &[char], i: usize) -> bool
     if i == chars.len() {
         return true;
     }
-    let (class, more) = at.step();
-    is_char(class, chars[i], i + 1 == chars.len()) && sees_chars(more, chars, i + 1)
+    if !is_char(at.class(), chars[i], i + 1 == chars.len()) {
+        return false;
+    }
+    if i + 1 == chars.len() {
+        return true;
+    }
+    let (_, more) = at.step();
+    sees_chars(more, chars, i + 1)
 }
 
 impl<'a> Place<'a> {
@@ -190,7 +196,7 @@ impl<'a> Place<'a> {
     pub(crate) fn class(&self) -> Class
         ensures { result ≡ spec.class_at (front self.now) }
     {
-        self.step().0
+        self.front_class()
     }
 
     /// What follows the first tree; a lifetime counts as one, a group too.

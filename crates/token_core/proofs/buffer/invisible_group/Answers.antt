@@ -7,13 +7,13 @@ use Rattle.token_core.proofs.Invisibles.{invisible_shown, invisible_nested, invi
 use Rattle.token_core.proofs.Places.{holds_invisible}
 use Rattle.token_core.proofs.buffer.invisible_group.Goals as goal
 
-pub invariant_of-result : goal.invariant_of-result
-invariant_of-result c =
+pub of-requires : goal.of-requires
+of-requires c =
     let g = c.args.group.now in
     (invisible_nested (span_of g) (content_of g) c.args.n (delimiter_of g) c.args.more.now c.around.result.0.now c.around.result.1.now (sym c.delimiter.ensures ∙ c.in-None.is) c.around.ensures.inside c.around.ensures.after c.requires).0
 
-pub invariant_of-result-in-None : goal.invariant_of-result-in-None
-invariant_of-result-in-None c =
+pub of-requires-in-None : goal.of-requires-in-None
+of-requires-in-None c =
     let g = c.args.group.now in
     (invisible_nested (span_of g) (content_of g) c.args.n (delimiter_of g) c.args.more.now c.around.result.0.now c.around.result.1.now (sym c.delimiter.ensures ∙ c.in-None.is) c.around.ensures.inside c.around.ensures.after c.requires).1
 
@@ -24,8 +24,8 @@ returns-in-None c =
     let i : entries_view c.around.result.0.now ≡ view (take c.args.n (map saw l)) = ap entries_view c.around.ensures.inside ∙ ap view (sym (take-map saw c.args.n l)) in
     let r : entries_view c.around.result.1.now ≡ view (drop (c.args.n + 1) (map saw l)) = ap entries_view c.around.ensures.after ∙ ap view (sym (drop-map saw (c.args.n + 1) l)) in
     record {
-      shown = invisible_shown (span_of g) (content_of g) c.args.n (delimiter_of g) l c.around.result.0.now c.around.result.1.now (sym c.delimiter.ensures ∙ c.in-None.is) c.around.ensures.inside c.around.ensures.after c.requires;
-      held = holds_invisible (span_of g) (content_of g) c.args.n (delimiter_of g) (map saw l) _ _ (sym c.delimiter.ensures ∙ c.in-None.is) i r c.requires;
+      shown = rw (c.of.ensures, c.of-in-None.ensures) (invisible_shown (span_of g) (content_of g) c.args.n (delimiter_of g) l c.around.result.0.now c.around.result.1.now (sym c.delimiter.ensures ∙ c.in-None.is) c.around.ensures.inside c.around.ensures.after c.requires);
+      held = rw (c.of.ensures, c.of-in-None.ensures) (holds_invisible (span_of g) (content_of g) c.args.n (delimiter_of g) (map saw l) _ _ (sym c.delimiter.ensures ∙ c.in-None.is) i r c.requires);
     }
 
 pub returns-in_default : goal.returns-in_default
