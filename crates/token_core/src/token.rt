@@ -171,8 +171,20 @@ pub type Underscore = Word<19>;
 /// `async`
 pub type Async = Word<21>;
 
+/// `enum`
+pub type Enum = Word<28>;
+
+/// `in`
+pub type In = Word<31>;
+
+/// `pub`
+pub type Pub = Word<40>;
+
 /// `struct`
 pub type Struct = Word<43>;
+
+/// `union`, which is an `Ident` too.
+pub type Union = Word<53>;
 
 impl<const N: u32, const LEN: usize> Default for Mark<N, LEN> {
     ghost is_default = { λ m. m ≡ marks.mark_of N LEN (spec.three spans.none spans.none spans.none) };
