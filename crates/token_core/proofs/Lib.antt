@@ -20,7 +20,6 @@ pub mod Puts
 pub mod Turns
 pub mod Steps
 pub mod Listings
-pub mod Name_lists
 pub mod Headlines
 pub mod Fronteds
 pub mod Took

@@ -1,5 +1,5 @@
 -- What tests see of classes is what they are defined to see.
-use Rattle.std.proofs.Common.{◌≡◌, ℕ, zero, suc, ◌+◌, ◌<◌, ◌≤◌, Bool, true, false, not, ◌&&◌, ◌||◌, ◌==◌, List, [], ◌∷◌, ◌++◌, Option, Some, None, Ok, Err, is_some, if◌then◌else◌, refl, sym, ap, ap₂, ◌∙◌, nat_eq, nat_lt, inl, inr, length, map, drop, get_or, codes, arith}
+use Rattle.std.proofs.Common.{◌≡◌, ℕ, zero, suc, ◌+◌, ◌<◌, ◌≤◌, Bool, true, false, not, ◌&&◌, ◌||◌, ◌==◌, List, [], ◌∷◌, ◌++◌, Option, Some, None, Ok, Err, is_some, if◌then◌else◌, refl, sym, ap, ap₂, ◌∙◌, nat_eq, nat_lt, inl, inr, length, map, drop, get_or, arith}
 use Rattle.std.specs.Str.{bytes_eq}
 use Rattle.std.proofs.lemmas.Bool.{cases_Bool, false≢true}
 use Rattle.std.proofs.lemmas.Slice.Eq.{bytes_eq-Decides}
@@ -245,14 +245,6 @@ opens (saw_lit k) b l e = cc
 opens (saw_group a s c n) b l e = refl
 opens (saw_enter s c n) b l e = refl
 opens saw_leave b l e = cc
-
-pub opens_none : (x : Seen) (l : List Item) → ((b : Delimiter) → class_of x ≡ Open b → ⊥) → None ≡ entered (item x ∷ l)
-opens_none (saw_word i) l h = refl
-opens_none (saw_mark p) l h = refl
-opens_none (saw_lit k) l h = refl
-opens_none (saw_group a s c n) l h = absurd (h a refl)
-opens_none (saw_enter s c n) l h = absurd (h d.None refl)
-opens_none saw_leave l h = refl
 
 -- ---- reads of a word that is tested for first
 

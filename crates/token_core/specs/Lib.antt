@@ -28,7 +28,6 @@ pub mod Looks
 pub mod Terminated
 pub mod Loops
 pub mod Listed
-pub mod Names
 pub mod Positions
 pub mod Cut
 pub mod Clear
