@@ -31,18 +31,10 @@ end_trans (past e) f = past (end_trans e f)
 strict_trans : {cs ds es : Text} → Strict cs ds → End ds es → Strict cs es
 strict_trans (strict e) f = strict (end_trans e f)
 
-strict_after : {cs ds es : Text} → End cs ds → Strict ds es → Strict cs es
-strict_after all f = f
-strict_after (past e) f = strict (end_of (strict_after e f))
-
 end_drop : (n : ℕ) (cs : Text) → End cs (drop n cs)
 end_drop zero cs = all
 end_drop (suc n) [] = all
 end_drop (suc n) (c ∷ cs) = past (end_drop n cs)
-
-end_append : (w rest : Text) → End (w ++ rest) rest
-end_append [] rest = all
-end_append (c ∷ w) rest = past (end_append w rest)
 
 front_of_end : {cs rest : Text} → End cs rest → (w : Text) × (cs ≡ w ++ rest)
 front_of_end all = ([], refl)

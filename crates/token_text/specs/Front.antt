@@ -18,11 +18,6 @@ use Rattle.token_text.specs.declared.piece.Piece.TheVariants.{Leaf, Open, Close}
 use Rattle.token_text.specs.Characters.{Text, upto, begins_with, is_blank, is_mark, is_letter, is_start, after_run, starts}
 use Rattle.token_text.specs.Pieces.{has_raw_form, is_char, begins_char, has_hashes, after_sign, is_e, spacing, is_line_doc, is_block_doc}
 
--- what follows the first character
-abbrev pub tail : Text → Text
-tail [] = []
-tail (c ∷ cs) = cs
-
 -- what follows this character
 abbrev pub after_char : ℕ → Text → Option Text
 after_char d [] = None
