@@ -13,7 +13,7 @@ use Rattle.token_core.specs.Groups.{brace, brace_name, opened}
 use Rattle.token_core.specs.Loops.{Many, listed, size}
 use Rattle.token_core.specs.Prints as p
 use Rattle.token_core.specs.Reads as reads
-use Rattle.token_core.specs.Reads.{Fails, Gives, Outcome, Reader, and_then, closing, expected, finished, first_of, in_group, inside, leaves, open_group, past, same_delimiter, sees_group}
+use Rattle.token_core.specs.Reads.{Fails, Gives, Outcome, Reader, closing, expected, finished, first_of, in_group, inside, leaves, open_group, past, same_delimiter, sees_group}
 use Rattle.token_core.specs.Rebuilt.{Visible}
 use Rattle.token_core.specs.Refusal.{Refusal}
 use Rattle.token_core.specs.Spellings.{AreChars, last_char, more_chars, IsMark, is_mark}
@@ -165,9 +165,6 @@ module _ {A T : Type 0} (a : Fronting A) (t : Fronting T) where
 
   abbrev pub read_fields : Reader (Many (FieldOf A T) Comma)
   read_fields = reading.fields a.grammar.reader t.grammar.reader
-
-  abbrev pub read_body : Reader (BodyOf A T)
-  read_body = reading.body a.grammar.reader t.grammar.reader
 
   -- ---- how they are read
 
