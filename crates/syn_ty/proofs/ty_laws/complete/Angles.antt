@@ -1,16 +1,14 @@
 -- Arguments in angle brackets that a list spells clearly are what their reads answer, over the reads of the arguments: with a `::` or without it, and as the arguments of a segment.
 use Rattle.std.proofs.Common.{◌≡◌, ℕ, ◌<◌, ◌≤◌, Bool, true, false, not, List, Option, Some, None, refl, sym, ◌∙◌, ap, arith}
-use Rattle.std.proofs.lemmas.Bool.{true≢false, and_from, or_left, or_right}
-use Rattle.syn_ty.proofs.ty_laws.words.Tokens.{Span, AreListed, Anywhere, none_left, last_value, value_and_mark, terminated, after_one, optional, sees_mark, none, IsMark, is_mark, last_char, more_chars, Scope, Toks}
-use Rattle.syn_ty.proofs.ty_laws.words.Paths.{AsWritten, Expr, sees_sep, sep}
-use Rattle.syn_ty.proofs.ty_laws.words.Forms.{ahead, sees_arguments, sees_turbofish, comma, sees_gt}
+use Rattle.std.proofs.lemmas.Bool.{true≢false}
+use Rattle.syn_ty.proofs.ty_laws.words.Tokens.{Span, AreListed, Anywhere, terminated, optional, sees_mark, none, IsMark, is_mark, last_char, more_chars, Scope, Toks}
+use Rattle.syn_ty.proofs.ty_laws.words.Paths.{Expr, sees_sep, sep}
+use Rattle.syn_ty.proofs.ty_laws.words.Forms.{ahead, comma, sees_gt}
 use Rattle.syn_ty.proofs.ty_laws.words.Types.{Sep, angle_of, arguments_step, ends_constraint, Styled, IsAngle, an_angle, IsArguments, Manner, clearly, Parts, Readers, an_argument, IsOptional, absent, present, AngleBracketed, GenericArgument, PathArguments}
 use Rattle.token_core.specs.Tokens as token
 use Rattle.token_core.proofs.MarkSpells.{mark_complete, mark_seen, mark_size}
 use Rattle.token_core.proofs.Steps.{Reads_to, chosen, link}
 use Rattle.token_core.proofs.Took.{at}
-use Rattle.token_core.proofs.Unseen.{lt_apart, lt_no_shift}
-use Rattle.syn_path.specs.path.Reading.{sees_angle}
 use Rattle.syn_forms.specs.heads.Reading as heads
 use Rattle.syn_forms.proofs.lists_laws.Complete.{listed_here}
 use Rattle.syn_forms.proofs.nested_laws.Ahead.{ahead-is, weight}
@@ -64,59 +62,10 @@ no_further l k f g d e sc limit h lim =
 
 -- ---- how they begin
 
--- a clear `<` begins no longer mark
-lt_angle : (o : token.Lt) (l r : Toks) → IsMark true o l r → sees_angle l ≡ true
-lt_angle o l r i = and_from _ _ (mark_seen true {n = 2} {k = 1} o l r i) (and_from _ _ (ap not (lt_apart o l r i)) (ap not (lt_no_shift o l r i)))
-
-sep_turbofish : (c : Sep) (o : token.Lt) (l m r : Toks) → IsMark true c l m → IsMark true o m r → sees_turbofish l ≡ true
-unfolding sees_turbofish sees_mark after_one
-sep_turbofish c o l m r (is_mark (more_chars (last_char x))) (is_mark (last_char y)) = refl
-
-angle_seen : (c : Option Sep) (o : token.Lt) (l m r : Toks) → IsOptional (IsMark true) c l m → IsMark true o m r → sees_arguments AsWritten l ≡ true
-angle_seen c o l m r absent i = or_left _ _ (lt_angle o l r i)
-angle_seen c o l m r (present {a = s} j) i = or_right _ _ (sep_turbofish s o l m r j i)
-
 module _ {A E : Type 0} (part : Manner → Parts A E) (firsts : Firsts part) where
   -- arguments joined by commas
   abbrev Arguments : Bool → List (GenericArgument A E) → List token.Comma → Toks → Toks → Type 0
   Arguments = AreListed (λ (_ : Bool). (part clearly).argument) (IsMark true) Anywhere
-
-  listed_light : (first : Bool) (xs : List (GenericArgument A E)) (cs : List token.Comma) (l k : Toks) → Arguments first xs cs l k → NoMore l k
-  listed_light first xs cs l k (none_left h) = record { light = omega arith; short = omega arith }
-  listed_light first xs cs l k (last_value {x = x} v) =
-      let h = (firsts.argument x l k v).1 in
-      let w = h.lighter in
-      let s = h.shorter in
-      record { light = omega (arith, w); short = omega (arith, s) }
-  listed_light first xs cs l k (value_and_mark {x = x} {p = c} {xs = ys} {ps = ds} {m = m} {k = n} v i j) =
-      let h = (firsts.argument x l m v).1 in
-      let w = h.lighter in
-      let s = h.shorter in
-      let u = comma_light c m n i in
-      let t = mark_size true {n = 4} {k = 1} c m n i in
-      let q = listed_light false ys ds n k j in
-      let y = q.light in
-      let z = q.short in
-      record { light = omega (arith, w, u, y); short = omega (arith, s, t, z) }
-
-  pub angle_begins : (x : AngleBracketed A E) (l k : Toks) → IsAngle part clearly x l k → (sees_arguments AsWritten l ≡ true) × Less l k
-  angle_begins x l k (an_angle {c = c} {o = o} {xs = xs} {cs = cs} {g = g} {m = m} {n = n} {k = j} i d v e) =
-      let q = optional_sep_light c l m i in
-      let b = lt_less o m n d in
-      let w = listed_light true xs cs n j v in
-      let u = gt_less g j k e in
-      let q0 = q.light in
-      let q1 = q.short in
-      let b0 = b.lighter in
-      let b1 = b.shorter in
-      let w0 = w.light in
-      let w1 = w.short in
-      let u0 = u.lighter in
-      let u1 = u.shorter in
-      (angle_seen c o l m n i d, record { lighter = omega (arith, q0, b0, w0, u0); shorter = omega (arith, q1, b1, w1, u1) })
-
-  pub arguments_begin : (x : PathArguments A E) (l k : Toks) → IsArguments part clearly x l k → (sees_arguments AsWritten l ≡ true) × Less l k
-  arguments_begin x l k (some_arguments {x = y} i) = angle_begins y l k i
 
 -- ---- the reads
 
