@@ -236,9 +236,6 @@ module _ {A E : Type 0} (attrs : List A → List A) (value : E → E) where
   abbrev pub parenthesized : Parenthesized A E → Parenthesized A E
   parenthesized x = parens_of (paren_token x.paren_token) (many named_arg mark x.inputs) (return_type x.output)
 
-  abbrev pub assoc_const : AssocConst A E → AssocConst A E
-  assoc_const x = assoc_const_of (ident x.ident) (option_map angle x.generics) (mark x.eq_token) (value x.value)
-
   abbrev pub bound_lifetimes : BoundLifetimes A E → BoundLifetimes A E
   bound_lifetimes = binder_by param
 
