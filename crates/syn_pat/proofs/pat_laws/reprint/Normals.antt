@@ -4,7 +4,7 @@ use Rattle.syn_pat.proofs.pat_laws.words.Tokens.{Mark, Word, Ident, TokenStream}
 use Rattle.syn_pat.proofs.pat_laws.words.Paths.{Place}
 use Rattle.syn_pat.proofs.pat_laws.words.Attributes.{ExprConstOf, Expr, normal_values_of}
 use Rattle.syn_pat.proofs.pat_laws.words.Types.{Path, QSelf, TypeTree}
-use Rattle.syn_pat.proofs.pat_laws.words.Patterns.{out-PatOf, map-PatOf, fold-roll-PatOf, fold_out-PatOf, Attrs, Pat, PatIdent, PatRange, PatReference, PatRest, PatSlice, FieldPat, is_rest, binding_of, struct_of, field_of}
+use Rattle.syn_pat.proofs.pat_laws.words.Patterns.{out-PatOf, map-PatOf, fold-roll-PatOf, fold_out-PatOf, Attrs, Pat, PatIdent, PatRange, PatReference, PatRest, PatSlice, PatType, FieldPat, is_rest, binding_of, struct_of, field_of}
 use Rattle.syn_pat.specs.declared.pat.PatOf.TheOpen as o
 use Rattle.syn_pat.specs.declared.pat.PatOf.TheVariants as v
 use Rattle.syn_pat.specs.declared.pat.PatWild.{PatWild}
@@ -92,6 +92,10 @@ module _ {X : Type 0} (nx : Place → X → X) where
   pub normal-TupleStruct : (x : PatTupleStruct X) → pat nx (v.TupleStruct x) ≡ v.TupleStruct (n.tuple_struct nx x)
   unfolding pat
   normal-TupleStruct x = ap (pat nx) (sym (v.rolls-TupleStruct x)) ∙ fold-roll-PatOf (Attr X) (Path (Attr X) (Expr X)) (QSelf (Attr X) (Expr X)) (TypeTree (Attr X) (Expr X)) X (Pat X) (pat_step nx) (o.TupleStruct x)
+
+  pub normal-Type : (x : PatType X) → pat nx (v.«Type» x) ≡ v.«Type» (n.typed nx x)
+  unfolding pat
+  normal-Type x = ap (pat nx) (sym (v.rolls-Type x)) ∙ fold-roll-PatOf (Attr X) (Path (Attr X) (Expr X)) (QSelf (Attr X) (Expr X)) (TypeTree (Attr X) (Expr X)) X (Pat X) (pat_step nx) (o.«Type» x)
 
   pub normal-Verbatim : (x : TokenStream) → pat nx (v.Verbatim x) ≡ v.Verbatim x
   unfolding pat
