@@ -1,0 +1,5 @@
+pub mod Refused
+pub mod Heads
+pub mod Both
+pub mod Same
+pub mod Lists

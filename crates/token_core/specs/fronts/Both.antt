@@ -1,0 +1,33 @@
+-- One thing after another on the front of a list.
+use Rattle.std.specs.Prelude.{◌≡◌, Bool, true, ◌++◌}
+use Rattle.token_core.specs.Fronted.{Fronting}
+use Rattle.token_core.specs.Reads.{Reader, ◌>>=◌, pure}
+use Rattle.token_core.specs.Toks.{Toks, done}
+
+abbrev pub read_both : {A B : Type 0} → Reader A → Reader B → Reader (A × B)
+read_both p q = do
+  a ← p
+  b ← q
+  pure (a, b)
+
+module _ {A B : Type 0} (F : Fronting A) (G : Fronting B) where
+  -- the first up to where the second begins
+  abbrev pub BothBegin : Bool → A × B → Toks → Toks → Type 0
+  BothBegin clear x l k = (m : Toks) × F.begins clear x.0 l m × G.begins clear x.1 m k
+
+  abbrev pub both : Fronting (A × B)
+  both = record {
+    grammar = record {
+      spells = λ clear x l. BothBegin clear x l done;
+      normal = λ x. (F.grammar.normal x.0, G.grammar.normal x.1);
+      print = λ x. F.grammar.print x.0 ++ G.grammar.print x.1;
+      plain = λ x. F.grammar.plain x.0 × G.grammar.plain x.1;
+      reader = read_both F.grammar.reader G.grammar.reader;
+    };
+    begins = BothBegin;
+    follows = G.follows;
+  }
+
+  -- the second may follow the first
+  abbrev pub Fit : Type 0
+  Fit = (clear : Bool) (b : B) (l k : Toks) → G.begins clear b l k → G.follows k ≡ true → F.follows l ≡ true
