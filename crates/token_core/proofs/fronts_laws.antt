@@ -3,3 +3,4 @@ pub mod Heads
 pub mod Both
 pub mod Same
 pub mod Lists
+pub mod Groups

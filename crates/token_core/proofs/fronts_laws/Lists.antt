@@ -15,7 +15,7 @@ use Rattle.token_core.specs.Terminated as turns
 use Rattle.token_core.specs.Terminated.{Terminates, Refused}
 use Rattle.token_core.specs.Toks.{Toks, done}
 use Rattle.token_core.specs.Trees.{row}
-use Rattle.token_core.specs.fronts.Lists.{Are, each_normal, print_each, all_plain, listing, Joins, listings, Read, Stopped}
+use Rattle.token_core.specs.fronts.Lists.{Are, each_normal, print_each, all_plain, listing, Joins, listings, Read, Stopped, ReadTurns}
 use Rattle.token_core.proofs.Ends.{done_of, ended, not_over, over, row_size}
 use Rattle.token_core.proofs.Rows.{row-append}
 use Rattle.token_core.proofs.Steps.{chosen, link}
@@ -287,16 +287,16 @@ module _ {A P : Type 0} (F : Fronting A) (G : Fronting P) where
 -- ---- of what values and marks say
 
 module _ {A P : Type 0} (va : Stream → A → Stream → Type 0) (na : Stream → Refusal → Type 0) (vp : Stream → P → Stream → Type 0) (np : Stream → Refusal → Type 0) where
-  abbrev pub ReadTurns : Fronts A → Fronts P → Stream → Result (Many A P) Refusal → Stream → Type 0
-  ReadTurns f g s r t = Parsed (turns.Answers (Read va f) (Read vp g) s) (λ e. Refused (Read va f) (Read vp g) (Stopped na f) (Stopped np g) e s) r t
+  abbrev Turns : Fronts A → Fronts P → Stream → Result (Many A P) Refusal → Stream → Type 0
+  Turns = ReadTurns va na vp np
 
   kept_by : (f : Fronts A) (g : Fronts P) (F : Fronting A) (G : Fronting P) → ((s t : Stream) (r : Result A Refusal) → KeepsFront f s r t → Fronted F s r t) → ((s t : Stream) (r : Result P Refusal) → KeepsFront g s r t → Fronted G s r t) →
-      Joins F G → (s t : Stream) (r : Result (Many A P) Refusal) → ReadTurns f g s r t → Fronted (listing F G) s r t
+      Joins F G → (s t : Stream) (r : Result (Many A P) Refusal) → Turns f g s r t → Fronted (listing F G) s r t
   kept_by f g F G a p joins s t r h =
       listed_kept F G joins (Read va f) (λ s t x v. v.within) (λ s t x v. a s t (Ok x) v.fronts) (Read vp g) (λ s t x v. v.within) (λ s t x v. p s t (Ok x) v.fronts)
       (Stopped na f) (λ s e v. a s v.end (Err e) v.fronts) (Stopped np g) (λ s e v. p s v.end (Err e) v.fronts) s t r h
 
-  pub turns_kept : (f : Fronts A) (g : Fronts P) (s t : Stream) (r : Result (Many A P) Refusal) → ReadTurns f g s r t → KeepsFront (listings f g) s r t
+  pub turns_kept : (f : Fronts A) (g : Fronts P) (s t : Stream) (r : Result (Many A P) Refusal) → Turns f g s r t → KeepsFront (listings f g) s r t
   turns_kept unsaid g s t r h = tt
   turns_kept (said F) unsaid s t r h = tt
   turns_kept (said F) (said G) s t r h = λ j. kept_by (said F) (said G) F G (λ s t r k. k) (λ s t r k. k) j s t r h
@@ -311,13 +311,13 @@ module _ {A P : Type 0} (va : Stream → A → Stream → Type 0) (na : Stream �
     answers s t xs ps (turns.last_value d v e) = turns.last_value d v.was e
     answers s t xs ps (turns.value_and_mark {u = u} {xs = ys} {ps = qs} d v e g n i) = turns.value_and_mark d v.was e g.was n (answers u t ys qs i)
 
-    refuses : (s : Stream) (e : Refusal) → Refused (Read va f) (Read vp g) (Stopped na f) (Stopped np g) e s → Refused va vp na np e s
-    refuses s e (turns.no_value_there d v) = turns.no_value_there d v.was
-    refuses s e (turns.no_mark_there d v h m) = turns.no_mark_there d v.was h m.was
-    refuses s e (turns.nothing_taken d v h m n w) = turns.nothing_taken d v.was h m.was n w
-    refuses s e (turns.later {u = u} d v h m n i) = turns.later d v.was h m.was n (refuses u e i)
+    refuses : (e : Refusal) (s : Stream) → Refused (Read va f) (Read vp g) (Stopped na f) (Stopped np g) e s → Refused va vp na np e s
+    refuses e s (turns.no_value_there d v) = turns.no_value_there d v.was
+    refuses e s (turns.no_mark_there d v h m) = turns.no_mark_there d v.was h m.was
+    refuses e s (turns.nothing_taken d v h m n w) = turns.nothing_taken d v.was h m.was n w
+    refuses e s (turns.later {u = u} d v h m n i) = turns.later d v.was h m.was n (refuses e u i)
 
     -- without what is promised
-    pub turns_read : (s t : Stream) (r : Result (Many A P) Refusal) → ReadTurns f g s r t → Parsed (turns.Answers va vp s) (λ e. Refused va vp na np e s) r t
+    pub turns_read : (s t : Stream) (r : Result (Many A P) Refusal) → Turns f g s r t → Parsed (turns.Answers va vp s) (λ e. Refused va vp na np e s) r t
     turns_read s t (Ok v) h = answers s t v.0 v.1 h
-    turns_read s t (Err e) h = λ k. refuses s e (h k)
+    turns_read s t (Err e) h = λ k. refuses e s (h k)

@@ -2,7 +2,7 @@
 use Rattle.std.specs.Prelude.{◌≢◌, IsErr, IsErrAnd}
 use Rattle.std.proofs.Common.{◌≡◌, Result, Ok, Err, sym, ap, subst}
 use Rattle.token_core.specs.declared.error.ErrorKind.TheVariants.{OutOfMemory}
-use Rattle.token_core.specs.Fronted.{Fronting, Fronted}
+use Rattle.token_core.specs.Fronted.{Fronting, Fronted, Fronts, KeepsFront}
 use Rattle.token_core.specs.Reads.{Outcome, Reader, Reads, and_then}
 use Rattle.token_core.specs.Refusal.{Refusal}
 use Rattle.token_core.specs.Stream.{Stream}
@@ -20,3 +20,6 @@ passed_on o p r t e h k f = subst (λ z. Reads o z t) (sym (refusal_is r e h)) (
 
 pub refused_front : {A : Type 0} (F : Fronting A) (s t : Stream) (r : Result A Refusal) (e : Refusal) → IsErr r × IsErrAnd r (λ z. z ≡ e) → Fronted F s (Err e) s → Fronted F s r t
 refused_front F s t r e h f = subst (λ z. Fronted F s z t) (sym (refusal_is r e h)) f
+
+pub kept_err : {A : Type 0} (f : Fronts A) (s t : Stream) (r : Result A Refusal) (e : Refusal) → IsErr r × IsErrAnd r (λ z. z ≡ e) → KeepsFront f s (Err e) t → KeepsFront f s r t
+kept_err f s t r e h k = subst (λ z. KeepsFront f s z t) (sym (refusal_is r e h)) k

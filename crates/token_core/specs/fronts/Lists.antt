@@ -1,13 +1,14 @@
 -- Values and marks in turn, up to the end of a stream: which lists they spell, and what a read of them promises.
-use Rattle.std.specs.Prelude.{◌≡◌, ◌<◌, Bool, true, false, List, [], ◌∷◌, map, Ok, Err}
+use Rattle.std.specs.Prelude.{◌≡◌, ◌<◌, Bool, true, false, List, [], ◌∷◌, map, Result, Ok, Err}
 use Rattle.token_core.specs.Fronted.{Fronting, Fronts, given, by_part, KeepsFront}
 use Rattle.token_core.specs.Listed.{AreListed, Anywhere}
 use Rattle.token_core.specs.Lists.{joined}
 use Rattle.token_core.specs.Loops.{Many, size, terminated}
 use Rattle.token_core.specs.Prints.{Print}
-use Rattle.token_core.specs.Reads.{Follows, is_done, is_end}
+use Rattle.token_core.specs.Reads.{Follows, Parsed, is_done, is_end}
 use Rattle.token_core.specs.Refusal.{Refusal}
 use Rattle.token_core.specs.Stream.{Stream}
+use Rattle.token_core.specs.Terminated.{Answers, Refused}
 use Rattle.token_core.specs.Toks.{Toks, done}
 
 module _ {A P : Type 0} (F : Fronting A) (G : Fronting P) where
@@ -63,3 +64,8 @@ pub record Stopped {A : Type 0} (refuses : Stream → Refusal → Type 0) (f : F
   pub was : refuses s e
   pub end : Stream
   pub fronts : KeepsFront f s (Err e) end
+
+-- values and marks in turn, with what is said of each
+module _ {A P : Type 0} (va : Stream → A → Stream → Type 0) (na : Stream → Refusal → Type 0) (vp : Stream → P → Stream → Type 0) (np : Stream → Refusal → Type 0) where
+  abbrev pub ReadTurns : Fronts A → Fronts P → Stream → Result (Many A P) Refusal → Stream → Type 0
+  ReadTurns f g s r t = Parsed (Answers (Read va f) (Read vp g) s) (λ e. Refused (Read va f) (Read vp g) (Stopped na f) (Stopped np g) e s) r t
