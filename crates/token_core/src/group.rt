@@ -15,7 +15,7 @@ impl<'a> ParseStream<'a> {
     /// Reads by a parser what the group of this delimiter at the front holds, which refusals name so, and answers the group's
     /// spans too. A tree that the parser leaves in the group is left over.
     #[tactic(auto, using(crate::proofs::Suffixes::follows))]
-    pub fn read_group<P: Parser>(
+    pub fn read_group<P: Parser + Drop>(
         &mut self,
         alloc: Global,
         delimiter: Delimiter,

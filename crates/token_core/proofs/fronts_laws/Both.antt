@@ -1,14 +1,14 @@
 -- One thing after another on the front of a list: what is promised of both, by what is promised of each.
 use Rattle.std.proofs.Common.{◌≡◌, Bool, true, false, ◌++◌, Option, Some, None, Ok, Err, refl, sym, ◌∙◌, ap, subst}
 use Rattle.token_core.specs.declared.span.Span.{Span}
-use Rattle.token_core.specs.Fronted.{Begun, FrontAgain, Fronting, Fronted, ReadTo, printed_on}
+use Rattle.token_core.specs.Fronted.{Begun, FrontAgain, Fronting, Fronted, Fronts, unsaid, said, given, KeepsFront, ReadTo, printed_on}
 use Rattle.token_core.specs.Reads.{Follows, Reader, ◌>>=◌, pure, first_of}
 use Rattle.token_core.specs.Rebuilt.{Visible}
 use Rattle.token_core.specs.Refusal.{Refusal}
 use Rattle.token_core.specs.Stream.{Stream}
 use Rattle.token_core.specs.Toks.{Toks, done}
 use Rattle.token_core.specs.fronts.Both as both
-use Rattle.token_core.specs.fronts.Both.{read_both}
+use Rattle.token_core.specs.fronts.Both.{pairs, read_both}
 use Rattle.token_core.proofs.Rows.{row-append}
 use Rattle.token_core.proofs.Steps.{link}
 use Rattle.token_core.proofs.Turns.{chain, same_pair}
@@ -117,3 +117,33 @@ module _ {A B : Type 0} (F : Fronting A) (G : Fronting B) where
 
     pub paired : (s t u : Stream) (a : A) (b : B) → Fronted F s (Ok a) t → Fronted G t (Ok b) u → Follows t u → Fronted Pair s (Ok (a, b)) u
     paired s t u a b h g f = λ n v. (begun_clean s t u a b h g n v f, left_none s t u a b h g n v)
+
+-- ---- of what is said of each
+
+module _ {A B : Type 0} where
+  pub pair_kept : (f : Fronts A) (g : Fronts B) (s t u : Stream) (a : A) (b : B) → KeepsFront f s (Ok a) t → KeepsFront g t (Ok b) u → Follows t u → KeepsFront (pairs f g) s (Ok (a, b)) u
+  pair_kept unsaid g s t u a b h i w = tt
+  pair_kept (said F) unsaid s t u a b h i w = tt
+  pair_kept (said F) (said G) s t u a b h i w = λ p. paired F G p s t u a b h i w
+  pair_kept (said F) (given Q G) s t u a b h i w = λ p. paired F G p.1 s t u a b h (i p.0) w
+  pair_kept (given P F) unsaid s t u a b h i w = tt
+  pair_kept (given P F) (said G) s t u a b h i w = λ p. paired F G p.1 s t u a b (h p.0) i w
+  pair_kept (given P F) (given Q G) s t u a b h i w = λ p. paired F G p.1.1 s t u a b (h p.0) (i p.1.0) w
+
+  pub first_kept : (f : Fronts A) (g : Fronts B) (s t : Stream) (e : Refusal) → KeepsFront f s (Err e) t → KeepsFront (pairs f g) s (Err e) t
+  first_kept unsaid g s t e h = tt
+  first_kept (said F) unsaid s t e h = tt
+  first_kept (said F) (said G) s t e h = λ p. no_first F G p s e h
+  first_kept (said F) (given Q G) s t e h = λ p. no_first F G p.1 s e h
+  first_kept (given P F) unsaid s t e h = tt
+  first_kept (given P F) (said G) s t e h = λ p. no_first F G p.1 s e (h p.0)
+  first_kept (given P F) (given Q G) s t e h = λ p. no_first F G p.1.1 s e (h p.0)
+
+  pub second_kept : (f : Fronts A) (g : Fronts B) (s t u : Stream) (a : A) (e : Refusal) → KeepsFront f s (Ok a) t → KeepsFront g t (Err e) u → KeepsFront (pairs f g) s (Err e) u
+  second_kept unsaid g s t u a e h i = tt
+  second_kept (said F) unsaid s t u a e h i = tt
+  second_kept (said F) (said G) s t u a e h i = λ p. no_second F G p s t a e h i
+  second_kept (said F) (given Q G) s t u a e h i = λ p. no_second F G p.1 s t a e h (i p.0)
+  second_kept (given P F) unsaid s t u a e h i = tt
+  second_kept (given P F) (said G) s t u a e h i = λ p. no_second F G p.1 s t a e (h p.0) i
+  second_kept (given P F) (given Q G) s t u a e h i = λ p. no_second F G p.1.1 s t a e (h p.0) (i p.1.0)
