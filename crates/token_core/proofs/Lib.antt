@@ -35,3 +35,6 @@ pub mod MemberSpells
 pub mod LimitSpells
 pub mod Invisibles
 pub mod Unseen
+pub mod TokenFronts
+pub mod Ends
+pub mod fronts_laws

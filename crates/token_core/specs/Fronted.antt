@@ -42,14 +42,27 @@ abbrev pub Fronted : {A : Type 0} → Fronting A → Stream → Result A Refusal
 Fronted F s (Ok a) t = s.left ≡ None → Visible s.rest → (t.left ≡ None → Begun F s t a) × ((b : _) (k : Toks) → F.begins true b s.rest k → F.follows k ≡ true → t.left ≡ None)
 Fronted F s (Err e) t = e.kind ≢ OutOfMemory → s.left ≡ None → Visible s.rest → (b : _) (k : Toks) → F.begins true b s.rest k → F.follows k ≡ true → ⊥
 
--- What a type says of fronts: nothing, or what its grammar promises.
+-- What a type says of fronts: nothing, or what its grammar promises, perhaps where something holds of its parts.
 pub data Fronts (A : Type 0) : Type 1 where
   unsaid : Fronts A
   said : Fronting A → Fronts A
+  given : Type 0 → Fronting A → Fronts A
 
 abbrev pub KeepsFront : {A : Type 0} → Fronts A → Stream → Result A Refusal → Stream → Type 0
 KeepsFront unsaid s r t = Unit {0}
 KeepsFront (said F) s r t = Fronted F s r t
+KeepsFront (given P F) s r t = P → Fronted F s r t
+
+-- what is said by what a part says
+abbrev pub also : {A : Type 0} → Type 0 → Fronts A → Fronts A
+also P unsaid = unsaid
+also P (said F) = given P F
+also P (given Q F) = given (P × Q) F
+
+abbrev pub by_part : {A B : Type 0} → Fronts A → (Fronting A → Fronts B) → Fronts B
+by_part unsaid f = unsaid
+by_part (said F) f = f F
+by_part (given P F) f = also P (f F)
 
 -- ---- the laws of a grammar and its read on fronts, from which it follows
 

@@ -40,3 +40,5 @@ pub mod Ranges
 pub mod Lifetimes
 pub mod Sees
 pub mod Spellings
+pub mod Grammars
+pub mod fronts

@@ -1,6 +1,6 @@
 -- Two values with a comma between them: which lists they spell, what they print, how they are read, and what that read promises on the front of a list.
 use Rattle.std.specs.Prelude.{◌≡◌, Bool, true, ◌++◌, Result, Ok, Err}
-use Rattle.token_core.specs.Fronted.{Fronting, Fronts, unsaid, said, Fronted}
+use Rattle.token_core.specs.Fronted.{Fronting, Fronts, unsaid, said, given, Fronted}
 use Rattle.token_core.specs.Headline.{Grammar}
 use Rattle.token_core.specs.Prints as p
 use Rattle.token_core.specs.Reads.{Reader, ◌>>=◌, pure}
@@ -57,3 +57,4 @@ module _ {T : Type 0} (F : Fronting T) where
 abbrev pub KeepsPair : {T : Type 0} → Fronts T → Stream → Result (Pair T) Refusal → Stream → Type 0
 KeepsPair unsaid s r t = Unit {0}
 KeepsPair (said F) s r t = BeforeComma F → Fronted (fronting F) s r t
+KeepsPair (given P F) s r t = P → BeforeComma F → Fronted (fronting F) s r t

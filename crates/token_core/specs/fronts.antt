@@ -1,0 +1,4 @@
+pub mod Both
+pub mod Same
+pub mod Lists
+pub mod Groups
