@@ -36,3 +36,4 @@ pub mod MemberSpells
 pub mod LimitSpells
 pub mod Invisibles
 pub mod Unseen
+pub mod Nestings

@@ -30,6 +30,7 @@ pub mod Loops
 pub mod Listed
 pub mod Names
 pub mod Positions
+pub mod Levels
 pub mod Cut
 pub mod Clear
 pub mod Headline
