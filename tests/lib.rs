@@ -51,6 +51,8 @@ mod mod_path_tests;
 #[cfg(test)]
 mod nested_tests;
 #[cfg(test)]
+mod nesting_tests;
+#[cfg(test)]
 mod note_tests;
 #[cfg(test)]
 mod nothing;

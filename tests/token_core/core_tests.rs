@@ -192,6 +192,7 @@ fn refusals_have_their_texts(rt: HostRuntime) {
             ErrorKind::BoundModifiersNotSupported,
             "trait bound modifiers are not supported here",
         ),
+        (ErrorKind::NestedTooDeep, "nested too deep"),
     ] {
         kind_says(&rt, alloc, kind, text);
     }

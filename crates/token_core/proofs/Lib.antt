@@ -38,3 +38,4 @@ pub mod Unseen
 pub mod TokenFronts
 pub mod Ends
 pub mod fronts_laws
+pub mod Nestings

@@ -29,6 +29,7 @@ pub mod Terminated
 pub mod Loops
 pub mod Listed
 pub mod Positions
+pub mod Levels
 pub mod Cut
 pub mod Clear
 pub mod Headline

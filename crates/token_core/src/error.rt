@@ -80,6 +80,8 @@ pub enum ErrorKind {
     OpenRangeInSlice,
     /// A trait bound has `const`, `[const]` or `async` where none is supported.
     BoundModifiersNotSupported,
+    /// A text or a list is nested deeper than its limit.
+    NestedTooDeep,
 }
 
 impl ErrorKind {
@@ -129,6 +131,7 @@ impl ErrorKind {
             ErrorKind::OpenRangeInSlice =>
                 "range pattern is not allowed unparenthesized inside slice pattern",
             ErrorKind::BoundModifiersNotSupported => "trait bound modifiers are not supported here",
+            ErrorKind::NestedTooDeep => "nested too deep",
         }
     }
 }
