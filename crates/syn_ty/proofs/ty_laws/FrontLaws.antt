@@ -1,10 +1,10 @@
 -- The grammars of this layer meet their laws on the front of a list, where those of attributes and expressions are given: before what may follow, each read is sound and complete, and what is spelt plainly is reprinted.
-use Rattle.std.proofs.Common.{◌≡◌, ℕ, Bool, true, false, not, List, Ok, refl}
-use Rattle.std.proofs.lemmas.Bool.{and_from, and_parts, not-true}
+use Rattle.std.proofs.Common.{◌≡◌, ℕ, Bool, true, false, not, ◌&&◌, List, Ok, refl}
+use Rattle.std.proofs.lemmas.Bool.{and_from, and_parts, and_right, not-true, not_from_false}
 use Rattle.syn_ty.proofs.ty_laws.words.Tokens.{Parenthesis, Bracket, Print, Reader, Scope, Span, any_text, sees_group, sees_lifetime, sees_word, sees_str, Visible, Stream, Toks}
 use Rattle.syn_ty.proofs.ty_laws.words.Paths.{AsWritten, PathStyle, AttributeLaws, sees_sep, TookOne}
 use Rattle.syn_ty.proofs.ty_laws.words.Forms.{Binder, NoPlus, Opaque, Plus, TypePlace, allows_plus, goes_on, sees_arguments}
-use Rattle.syn_ty.proofs.ty_laws.words.Types.{End, IsAbi, IsAngle, IsArgument, IsBorrow, IsBound, IsBracketed, IsCapture, IsCaptured, IsConstParam, IsCounted, IsEnclosed, IsFnPtr, IsFor, IsImpl, IsNamedArg, IsObject, IsOptional, IsParam, IsParens, IsPath, IsPathAlone, IsPointer, IsReturn, IsSegment, IsTraitBound, IsTupled, IsType, IsTypeParam, Manner, Parts, Relation, between_angles, clearly, is_clear, loosely, sees_call, spelt_to}
+use Rattle.syn_ty.proofs.ty_laws.words.Types.{End, IsAbi, IsAngle, IsArgument, IsBorrow, IsBound, IsBracketed, IsCapture, IsCaptured, IsConstParam, IsCounted, IsEnclosed, IsFnPtr, IsFor, IsImpl, IsNamedArg, IsObject, IsOptional, IsParam, IsParens, IsPath, IsPathAlone, IsPointer, IsReturn, IsSegment, IsTraitBound, IsTupled, IsType, IsTypeParam, Manner, Parts, Relation, between_angles, clearly, loosely, sees_call, spelt_to}
 use Rattle.token_core.specs.Fronted.{FrontLaws}
 use Rattle.token_core.specs.Tokens as token
 use Rattle.token_core.proofs.Steps.{Reads_to}
@@ -15,6 +15,7 @@ use Rattle.syn_path.proofs.Words.{AgainFront}
 use Rattle.syn_ty.specs.ty.Follows.{anything, follows_abi, follows_argument, follows_binder, follows_bound, follows_bounds, follows_input, follows_optional_abi, follows_param, follows_path, follows_qualified, follows_segment, follows_type}
 use Rattle.syn_ty.specs.ty.Frontings as frontings
 use Rattle.syn_ty.specs.ty.Frontings.{fronting, fitting}
+use Rattle.syn_ty.specs.ty.Parts.{is_clear}
 use Rattle.syn_ty.specs.ty.Promises.{promise}
 use Rattle.syn_ty.specs.ty.Spelt as by
 use Rattle.syn_ty.proofs.ty_laws.Given.{Given}
@@ -22,7 +23,7 @@ use Rattle.syn_ty.proofs.ty_laws.complete.Alone as met
 use Rattle.syn_ty.proofs.ty_laws.complete.Capture.{capture_met, captured_met}
 use Rattle.syn_ty.proofs.ty_laws.complete.Functions.{abi_met, optional_abi_met}
 use Rattle.syn_ty.proofs.ty_laws.complete.Knot.{GivenMeets}
-use Rattle.syn_ty.proofs.ty_laws.complete.Params.{lifetime_param_met}
+use Rattle.syn_ty.proofs.ty_laws.complete.Params.{Over, lifetime_param_met}
 use Rattle.syn_ty.proofs.ty_laws.complete.Signatures.{EndsInput}
 use Rattle.syn_ty.proofs.ty_laws.complete.Within.{Fits, PathStops, Stops}
 use Rattle.syn_ty.proofs.ty_laws.reprint.Knot.{GivenAgain}
@@ -86,6 +87,15 @@ not_both false p h e = cc e
 
 type_no_plus : (place : TypePlace) (k : Toks) → follows_type place k ≡ true → allows_plus place ≡ true → token.sees_plus k ≡ false
 type_no_plus place k h e = not_both (allows_plus place) (token.sees_plus k) (and_parts (follows_bound k) _ h).1 e
+
+-- what ends a list may follow
+pub stops_follow : (k : Toks) → Stops k → follows_bound k ≡ true
+stops_follow k s =
+    and_from _ _ (not_from_false (sees_sep k) s.no_sep) (and_from _ _ (not_from_false (sees_angle k) s.no_angle) (and_from _ _ (not_from_false (sees_call k) s.no_call) (and_from _ _ (not_from_false (token.sees_r_arrow k) s.no_arrow) (and_from _ _ (not_from_false (token.sees_question k) s.no_question)
+    (and_from _ _ (not_from_false (sees_lifetime k) s.no_lifetime) (and_from _ _ (not_from_false (sees_group Parenthesis k) s.no_paren) (and_from _ _ (not_from_false (sees_group Bracket k) s.no_bracket) (not_from_false (token.sees_pound k) s.no_pound))))))))
+
+pub over_follows : (place : TypePlace) (k : Toks) → Over k → follows_type place k ≡ true
+over_follows place k o = and_from (follows_bound k) _ (stops_follow k o.stops) (not_from_false (allows_plus place && token.sees_plus k) (and_right (allows_plus place) (token.sees_plus k) o.no_plus))
 
 bounds_fit : (k : Toks) → follows_bounds k ≡ true → (d : End) → Fits d k
 bounds_fit k h d =

@@ -4,7 +4,7 @@ use Rattle.std.proofs.lemmas.Bool.{true≢false}
 use Rattle.syn_ty.proofs.ty_laws.words.Tokens.{Print, IsMark, Toks, done}
 use Rattle.syn_ty.proofs.ty_laws.words.Paths.{AsWritten, Expr, NormalValues, SpelledValues, Values}
 use Rattle.syn_ty.proofs.ty_laws.words.Forms.{Opaque, Binder, TypePlace, Plus, NoPlus}
-use Rattle.syn_ty.proofs.ty_laws.words.Types.{CapturedParam, Abi, IsBound, IsCapture, IsCaptured, IsFor, IsTraitBound, IsConstParam, IsParam, IsTypeParam, ArgumentPlace, alone, IsArgument, IsParens, IsReturn, IsAngle, an_angle, IsPath, IsSegment, Styled, IsBorrow, IsBracketed, IsCounted, IsEnclosed, IsPointer, IsTupled, IsType, IsAbi, IsFnPtr, IsNamedArg, IsImpl, IsObject, Manner, plainly, clearly, is_clear, End, Parts, Relation, IsOptional, absent, present, IsPathAlone, AngleBracketed}
+use Rattle.syn_ty.proofs.ty_laws.words.Types.{CapturedParam, Abi, IsBound, IsCapture, IsCaptured, IsFor, IsTraitBound, IsConstParam, IsParam, IsTypeParam, ArgumentPlace, alone, IsArgument, IsParens, IsReturn, IsAngle, an_angle, IsPath, IsSegment, Styled, IsBorrow, IsBracketed, IsCounted, IsEnclosed, IsPointer, IsTupled, IsType, IsAbi, IsFnPtr, IsNamedArg, IsImpl, IsObject, Manner, plainly, clearly, End, Parts, Relation, IsOptional, absent, present, IsPathAlone, AngleBracketed}
 use Rattle.token_core.specs.Prints as p
 use Rattle.token_core.specs.Tokens as token
 use Rattle.syn_path.proofs.Words.{Again, AgainFront}
@@ -12,6 +12,7 @@ use Rattle.syn_ty.specs.generics.NormalShapes as shapes
 use Rattle.syn_ty.specs.generics.Shapes as shown_shapes
 use Rattle.syn_ty.specs.path.Printing as shown_paths
 use Rattle.syn_ty.specs.ty.Normal as normal
+use Rattle.syn_ty.specs.ty.Parts.{is_clear}
 use Rattle.syn_ty.specs.ty.Printing as printing
 use Rattle.syn_ty.specs.ty.Spelt as by
 use Rattle.syn_ty.proofs.ty_laws.reprint.Angles.{angle_again, lt_no_sep, styled_angle_again}
