@@ -5,6 +5,7 @@ ghost use Rattle.token_core.specs.Rebuilt.{Visible};
 ghost use Rattle.token_core.specs.Refusal.{Made};
 ghost use Rattle.token_core.specs.Spans.{none};
 ghost use Rattle.token_core.specs.Trees.{trees};
+ghost use Rattle.token_core.specs.Fronted.{Fronts, KeepsFront};
 ghost use Rattle.token_core.specs.Prints.{Print, Extends, Appends};
 ghost use Rattle.token_core.specs.Toks.{Toks};
 ghost use Rattle.token_core.specs.Reads.{Fails, Follows, Gives, Keeps, Parses, Reader, Reads, sees_word};
@@ -100,6 +101,12 @@ pub trait ReadArguments: Arguments {
     /// What a whole read of a segment with such arguments promises.
     ghost promise_segment: { Toks → Option (PathSegmentOf Self) → Type 0 };
 
+    /// What a read of a path with such arguments promises on the front of a list.
+    ghost fronts_path: { Fronts (PathOf Self) };
+
+    /// What a read of a segment with such arguments promises on the front of a list.
+    ghost fronts_segment: { Fronts (PathSegmentOf Self) };
+
     /// By what a path with such arguments spells what its read took.
     ghost spells_path: { PathOf Self → Toks → Toks → Type 0 };
 
@@ -110,7 +117,8 @@ pub trait ReadArguments: Arguments {
     fn parse_path(alloc: Global, input: &mut ParseStream<'_>) -> Result<PathOf<Self>, Error>
         ensures parses { Parses reads_path result input.old input.new }
         ensures promise { Keeps promise_path input.old result input.new }
-        ensures front { Takes spells_path input.old result input.new };
+        ensures front { Takes spells_path input.old result input.new }
+        ensures fronts { KeepsFront fronts_path input.old result input.new };
 
     /// Reads a segment.
     fn parse_segment(
@@ -119,7 +127,8 @@ pub trait ReadArguments: Arguments {
     ) -> Result<PathSegmentOf<Self>, Error>
         ensures parses { Parses reads_segment result input.old input.new }
         ensures promise { Keeps promise_segment input.old result input.new }
-        ensures front { Takes spells_segment input.old result input.new };
+        ensures front { Takes spells_segment input.old result input.new }
+        ensures fronts { KeepsFront fronts_segment input.old result input.new };
 }
 
 /// The arguments of a segment that has none.
@@ -360,11 +369,14 @@ impl<A: ReadArguments> Parse for PathOf<A> {
 
     ghost promise = { A.promise_path };
 
+    ghost fronts = { A.fronts_path };
+
     fn parse(alloc: Global, input: &mut ParseStream<'_>) -> Result<PathOf<A>, Error>
         ensures reads { Reads (A.reads_path input.old) result input.new }
         ensures within { Follows input.old input.new }
         ensures promise { Keeps A.promise_path input.old result input.new }
         ensures front { Takes A.spells_path input.old result input.new }
+        ensures fronts { KeepsFront A.fronts_path input.old result input.new }
     {
         A::parse_path(alloc, input)
     }
@@ -378,11 +390,14 @@ impl<A: ReadArguments> Parse for PathSegmentOf<A> {
 
     ghost promise = { A.promise_segment };
 
+    ghost fronts = { A.fronts_segment };
+
     fn parse(alloc: Global, input: &mut ParseStream<'_>) -> Result<PathSegmentOf<A>, Error>
         ensures reads { Reads (A.reads_segment input.old) result input.new }
         ensures within { Follows input.old input.new }
         ensures promise { Keeps A.promise_segment input.old result input.new }
         ensures front { Takes A.spells_segment input.old result input.new }
+        ensures fronts { KeepsFront A.fronts_segment input.old result input.new }
     {
         A::parse_segment(alloc, input)
     }

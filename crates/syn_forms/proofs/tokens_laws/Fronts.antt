@@ -1,6 +1,7 @@
 -- A grammar of a relation on the front of a list: what is read, where it is read, and what prints spell.
 use Rattle.std.specs.Prelude.{IfOk}
-use Rattle.std.proofs.Common.{◌≡◌, Bool, true, false, None, Result, Ok, Err, subst, sym, ◌∙◌}
+use Rattle.std.proofs.Common.{◌≡◌, Bool, true, false, None, Result, Ok, Err, refl, subst, sym, ◌∙◌}
+use Rattle.token_core.specs.Fronted.{Fronting, FrontLaws}
 use Rattle.token_core.specs.Headline.{Grammar, Lawful}
 use Rattle.token_core.specs.Prints.{Print}
 use Rattle.token_core.specs.Reads.{Reader, Reads, leaves, left_here}
@@ -63,4 +64,20 @@ module _ {A : Type 0} (spells : Bool → A → Toks → Toks → Type 0) (normal
     visible = λ a l h v p. (again a l done h).visible done v tt;
     stays = λ a l h p. (again a l done h).stays;
     same = λ a l h p. (again a l done h).same;
+  }
+
+  -- on the front of a list, where nothing that it holds is held verbatim
+  abbrev pub FrontOf : (Toks → Bool) → Fronting A
+  FrontOf follows = record { grammar = Of; begins = spells; follows = follows; plain = λ x k. Unit {0} }
+
+  pub fronts_by : (follows : Toks → Bool) → ((s t : Stream) (a : A) → Visible s.rest → reader s ≡ Ok (a, t) → TookOne (spells false) s t a) →
+      ((s : Stream) (a : A) (k : Toks) → spells true a s.rest k → follows k ≡ true → Reads_to reader a s.rest k s.left s.last s.scope) →
+      ((a : A) (l r : Toks) → spells false a l r → AgainFront (spells true) normal print a l r) → FrontLaws (FrontOf follows)
+  fronts_by follows sound complete again = record {
+    sound = λ s t a n v e h. let k = sound s t a v e in (k.seen, λ o. k.spelt h);
+    complete = λ s a k n v i o. let w = complete s a k i o in (at k s.left w.last s.scope, w.reads, refl, n);
+    spells = λ a l r k i p o. (again a l r i).spelt k;
+    visible = λ a l r k i u p v o. (again a l r i).visible k u v;
+    stays = λ a l r k i p. (again a l r i).stays;
+    same = λ a l r k i p. (again a l r i).same;
   }

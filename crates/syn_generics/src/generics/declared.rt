@@ -322,11 +322,14 @@ impl<A: Attributes, E: Value> Parse for WhereClauseOf<A, E> {
 
     ghost promise = { Headline (promises.where_clause A.Attributes E.Value) };
 
+    ghost fronts = { said (promises.where_clause_front A.Attributes E.Value) };
+
     fn parse(alloc: Global, input: &mut ParseStream<'_>) -> Result<WhereClauseOf<A, E>, Error>
         ensures reads { Reads (alone.where_clause A.reads E.reads input.old) result input.new }
         ensures within { Follows input.old input.new }
         ensures promise { Heads (promises.where_clause A.Attributes E.Value) input.old result input.new }
         ensures front { Takes (fronts.where_clause A.spells E.spells) input.old result input.new }
+        ensures fronts { Fronted (promises.where_clause_front A.Attributes E.Value) input.old result input.new }
         ensures printed { IfOk result (λ x. (promises.optional_where_clause A.Attributes E.Value).plain (Some x) →
             Reprinted (promises.optional_where_clause A.Attributes E.Value) (Some x)) }
     {
@@ -381,11 +384,14 @@ impl<A: Attributes, E: Value> Parse for WherePredicateOf<A, E> {
 
     ghost promise = { Headline (promises.predicate A.Attributes E.Value) };
 
+    ghost fronts = { said (promises.predicate_front A.Attributes E.Value) };
+
     fn parse(alloc: Global, input: &mut ParseStream<'_>) -> Result<WherePredicateOf<A, E>, Error>
         ensures reads { Reads (alone.predicate A.reads E.reads input.old) result input.new }
         ensures within { Follows input.old input.new }
         ensures promise { Heads (promises.predicate A.Attributes E.Value) input.old result input.new }
         ensures front { Takes (fronts.predicate A.spells E.spells) input.old result input.new }
+        ensures fronts { Fronted (promises.predicate_front A.Attributes E.Value) input.old result input.new }
     {
         parse_predicate(alloc, input)
     }

@@ -121,19 +121,19 @@ module _ {T : Type 0} (F : Fronting T) (may : BeforeComma F) where
       comma_follows : F.follows t.rest ≡ true
       comma_follows = may t.rest (mark_seen false c t.rest u.rest mark)
 
-      reprinted : F.follows w.rest ≡ true → F.grammar.plain a → F.grammar.plain b → (k : Toks) → Visible k → F.follows k ≡ true → FrontAgain (fronting F) (pair_of a c b) k
-      reprinted f x y k z o =
-          let e = second.reprint f y k z o in
+      reprinted : F.follows w.rest ≡ true → (k : Toks) → F.plain a (row (p.mark c) (printed_on F b k)) → F.plain b k → Visible k → F.follows k ≡ true → FrontAgain (fronting F) (pair_of a c b) k
+      reprinted f k x y z o =
+          let e = second.reprint f k y z o in
           let m = mark_again false c t.rest u.rest (printed_on F b k) mark in
           let l = row (p.mark c) (printed_on F b k) in
-          pair_again a b c k m (first.reprint comma_follows x l (mark_whole true c l (printed_on F b k) m e.visible) (may l (mark_seen true c l (printed_on F b k) m))) e
+          pair_again a b c k m (first.reprint comma_follows l x (mark_whole true c l (printed_on F b k) m e.visible) (may l (mark_seen true c l (printed_on F b k) m))) e
 
       begun : Begun (fronting F) s w (pair_of a c b)
       begun = record {
         visible = second.visible;
         sound = λ o. record { at = t.rest; past = u.rest; first = first.sound comma_follows; comma = mark; second = second.sound o };
         unique = pair_same;
-        reprint = λ f x. reprinted f x.0 x.1;
+        reprint = λ f k x. reprinted f k x.0 x.1;
       }
 
     begun_clean : Follows t u → Follows u w → w.left ≡ None → Begun (fronting F) s w (pair_of a c b)

@@ -63,7 +63,7 @@ module _ {X : Type 0} (supplied : Place → Reader X) (spells : Place → X → 
   -- ---- patterns, at some height
 
   -- an admitted one, where neither `::` before parentheses nor `!=` follows
-  pat_told : (place : PatPlace) (s t : Stream) (x : Pat X) → Visible s.rest → pat supplied (type_names supplied) place s ≡ Ok (x, t) → TookOne (Before Stops (IsSomePat spells place)) s t x
+  pub pat_told : (place : PatPlace) (s t : Stream) (x : Pat X) → Visible s.rest → pat supplied (type_names supplied) place s ≡ Ok (x, t) → TookOne (Before Stops (IsSomePat spells place)) s t x
   unfolding pat
   pat_told place s t x v e =
       let k = (turns_told (suc (ahead s))).took place s t x v e in
