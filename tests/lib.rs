@@ -5,6 +5,8 @@
 #[cfg(test)]
 mod argument_tests;
 #[cfg(test)]
+mod attr_front_tests;
+#[cfg(test)]
 mod attr_tests;
 #[cfg(test)]
 mod attr_text_tests;
@@ -32,6 +34,8 @@ mod fn_ptr_tests;
 mod generics_tests;
 #[cfg(test)]
 mod group_tests;
+#[cfg(test)]
+mod left;
 #[cfg(test)]
 mod lexer_tests;
 #[cfg(test)]
@@ -64,6 +68,8 @@ mod options;
 mod options_tests;
 #[cfg(test)]
 mod pat_tests;
+#[cfg(test)]
+mod path_front_tests;
 #[cfg(test)]
 mod path_tests;
 #[cfg(test)]

@@ -9,6 +9,7 @@ ghost use Rattle.token_core.specs.Fronted.{Fronts, KeepsFront};
 ghost use Rattle.token_core.specs.Prints.{Print, Extends, Appends};
 ghost use Rattle.token_core.specs.Toks.{Toks};
 ghost use Rattle.token_core.specs.Reads.{Fails, Follows, Gives, Keeps, Parses, Reader, Reads, sees_word};
+ghost use Rattle.token_core.specs.Fronted.{Fronted};
 ghost use Rattle.token_core.specs.Headline.{Heads};
 ghost use Rattle.syn_path.specs.declared.path.PathOf.{PathOf};
 ghost use Rattle.syn_path.specs.declared.path.PathSegmentOf.{PathSegmentOf};
@@ -350,12 +351,14 @@ impl<A: Arguments> PathOf<A> {
     /// without arguments. It is refused where no segment begins, and after a `::` that none follows.
     ///
     /// On the front of a list without invisible groups it took what the path spells. Where the stream has no left-over tree, a whole read that begins here keeps the promise of the grammar: it
-    /// answers only a path that spells the list, the path that a list spells clearly, and its print is read again.
+    /// answers only a path that spells the list, the path that a list spells clearly, and its print is read again. On the front of a
+    /// list it keeps that of fronts, where the end follows or anything but a `::`.
     pub fn parse_mod_style(alloc: Global, input: &mut ParseStream<'_>) -> Result<PathOf<A>, Error>
         ensures parses { Parses (reading.mod_style A.absent) result input.old input.new }
         ensures front { Visible input.old.rest →
             IfOk result (λ p. IsModPath false A.absent p input.old.rest input.new.rest) }
         ensures headline { Heads (grammars.mod_style A.absent A.shown) input.old result input.new }
+        ensures fronts { Fronted (grammars.mod_style_front A.absent A.shown) input.old result input.new }
     {
         parse_bare_path(alloc, input, SegmentStyle::Mod)
     }
@@ -424,8 +427,7 @@ pub fn parse_bare_path<A: Arguments>(
 pub fn peek_angle(input: &ParseStream<'_>) -> bool
     ensures { result ≡ reading.sees_angle input.now.rest }
 {
-    // all tested, so that the answer is one value
-    input.peek::<Lt>() & (!input.peek::<Le>() & !input.peek::<ShlEq>())
+    input.peek::<Lt>() && (!input.peek::<Le>() && !input.peek::<ShlEq>())
 }
 
 /// A `::` that may stand before a path.
@@ -441,10 +443,9 @@ pub fn parse_leading(alloc: Global, input: &mut ParseStream<'_>) -> Result<Optio
 pub fn begins_mod_segment(input: &ParseStream<'_>) -> bool
     ensures { result ≡ sees_word is_mod_word input.now.rest }
 {
-    // all tested, so that the answer is one value
     input.peek::<Ident>()
-        | (input.peek::<Super>()
-            | (input.peek::<SelfValue>() | (input.peek::<SelfType>() | input.peek::<Crate>())))
+        || (input.peek::<Super>()
+            || (input.peek::<SelfValue>() || (input.peek::<SelfType>() || input.peek::<Crate>())))
 }
 
 /// Whether a segment of this style begins here.

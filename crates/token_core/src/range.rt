@@ -30,8 +30,7 @@ fn parse_limits(alloc: Global, input: &mut ParseStream<'_>) -> Result<RangeLimit
     if input.peek::<DotDotEq>() {
         return Ok(RangeLimits::Closed(input.parse::<DotDotEq>(alloc)?));
     }
-    // all tested, so that the answer is one value
-    if input.peek::<DotDot>() & !input.peek::<DotDotDot>() {
+    if input.peek::<DotDot>() && !input.peek::<DotDotDot>() {
         Ok(RangeLimits::HalfOpen(input.parse::<DotDot>(alloc)?))
     } else {
         Err(input.expected(alloc, "`..=` or `..`"))
