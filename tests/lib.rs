@@ -27,6 +27,8 @@ mod derive_head;
 #[cfg(test)]
 mod derive_head_tests;
 #[cfg(test)]
+mod doc_tests;
+#[cfg(test)]
 mod expr_tests;
 #[cfg(test)]
 mod fn_ptr_tests;

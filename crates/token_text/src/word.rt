@@ -1,6 +1,6 @@
 //! Runs of characters and words at the front of a text, and raw ones.
 
-ghost use Rattle.std.specs.Prelude.{◌≡◌, ◌∷◌, [], ◌++◌, ◌<◌, ℕ, List, length, encode_utf8, chars, IfSome, MatchOption};
+ghost use Rattle.std.specs.Prelude.{◌≡◌, ◌∷◌, [], ◌++◌, ◌<◌, ℕ, List, length, drop, encode_utf8, chars, IfSome, MatchOption};
 ghost use Rattle.token_text.specs.declared.class.Class.TheVariants.{Blank};
 ghost use Rattle.token_text.specs.Characters as c;
 ghost use Rattle.token_text.specs.Front as spec;
@@ -25,6 +25,12 @@ pub fn split_first(text: &str) -> Option<(char, &str)>
     }
 }
 
+pub fn is_end(text: &str) -> bool
+    ensures { result ≡ c.is_nothing (chars text.now) }
+{
+    split_first(text).is_none()
+}
+
 /// The text up to where its end, `rest`, begins.
 #[tactic(auto, using(crate::proofs::Pasts::pasts))]
 pub fn up_to<'a>(text: &'a str, rest: &str) -> &'a str
@@ -41,6 +47,18 @@ pub fn after_char(text: &str, ch: char) -> Option<&str>
 {
     let (first, rest) = split_first(text)?;
     if first == ch { Some(rest) } else { None }
+}
+
+/// What follows the first character, where there is one.
+#[tactic(auto, using(crate::proofs::Pasts::pasts))]
+pub fn after_first(text: &str) -> &str
+    ensures rest { chars result.now ≡ drop 1 (chars text.now) }
+    ensures past { spec.Past text.now result.now }
+{
+    match split_first(text) {
+        Some((_, rest)) => rest,
+        None => text,
+    }
 }
 
 /// Whether this character stands here.
