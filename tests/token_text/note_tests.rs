@@ -136,3 +136,11 @@ fn nowhere_is_the_end(rt: HostRuntime) -> Result<(), Fail> {
     assert_eq!(rt; got.as_str(), "a.rs:1:6: unexpected token\nVec<T\n     ^");
     Ok(())
 }
+
+#[test]
+fn memory_has_no_place(rt: HostRuntime) -> Result<(), Fail> {
+    let e = Error::out_of_memory();
+    let got = note(rt.alloc(), "a.rs", "Vec<T>", &e)?;
+    assert_eq!(rt; got.as_str(), "a.rs: out of memory");
+    Ok(())
+}

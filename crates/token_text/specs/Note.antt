@@ -1,10 +1,11 @@
 -- The note for a refusal: where it points in a text, what it says, and the line as it is shown, with marks under the place.
-use Rattle.std.specs.Prelude.{ℕ, zero, suc, ◌+◌, ◌-◌, ◌^◌, max, Bool, true, false, not, ◌&&◌, ◌||◌, if◌then◌else◌, ◌==◌, nat_lt, nat_le, List, [], ◌∷◌, ◌++◌, replicate, reverse, length, unwrap_or, chars, codes, encode_utf8_all, Result, Ok, Err}
+use Rattle.std.specs.Prelude.{ℕ, zero, suc, ◌+◌, ◌-◌, ◌^◌, max, Bool, true, false, not, ◌&&◌, ◌||◌, if◌then◌else◌, ◌==◌, nat_lt, nat_le, List, [], ◌∷◌, ◌++◌, replicate, reverse, length, unwrap_or, chars, codes, encode_utf8, Result, Ok, Err}
 use Rattle.std.specs.Char.{len_utf8}
 use Rattle.std.specs.Fmt.{decimal, digits, padded_integral, format_spec}
 use Rattle.std.specs.List.{list_any}
 use Rattle.unicode_width.specs.Width.{char_width}
 use Rattle.token_core.specs.declared.error.ErrorKind.{ErrorKind}
+use Rattle.token_core.specs.declared.error.ErrorKind.TheVariants.{OutOfMemory}
 use Rattle.token_core.specs.Toks.{Bytes}
 use Rattle.token_core.specs.Refusal.{Refusal}
 use Rattle.token_text.specs.declared.piece.Leaf.TheVariants.{Blank, Word, Lifetime, Literal, Mark}
@@ -112,11 +113,11 @@ hexadecimal n = padded_integral (format_spec 32 0 4 4 (2 ^ 64 - 1)) false [] (di
 abbrev pub picture : ℕ → ℕ
 picture c = if c == 127 then 9249 else if nat_lt c 32 && not (c == 9) then 9216 + c else c
 
-abbrev pub visible_char : ℕ → Text
-visible_char c = if is_hidden c then codes "<U+" ++ hexadecimal c ++ codes ">" else picture c ∷ []
+abbrev pub visible_char : ℕ → Bytes
+visible_char c = if is_hidden c then codes "<U+" ++ hexadecimal c ++ codes ">" else encode_utf8 (picture c)
 
 -- a text as it is shown
-abbrev pub visible : Text → Text
+abbrev pub visible : Text → Bytes
 visible [] = []
 visible (c ∷ cs) = visible_char c ++ visible cs
 
@@ -156,9 +157,8 @@ written name line column message shown under =
 -- of a place between two texts, up to a byte, where the first line has this number
 abbrev pub between : Bytes → ℕ → Bytes → ℕ → Text → Text → Bytes
 between name first message end head rest =
-    written name (first + line_feeds head) (1 + columns (visible (last_line head))) message
-    (encode_utf8_all (visible (last_line head) ++ visible (first_line rest)))
-    (blanks (visible (last_line head)) ++ marks (visible (within (end - size head) (first_line rest))))
+    written name (first + line_feeds head) (1 + columns (chars (visible (last_line head)))) message (visible (last_line head) ++ visible (first_line rest))
+    (blanks (chars (visible (last_line head))) ++ marks (chars (visible (within (end - size head) (first_line rest)))))
 
 abbrev pub at_place : Bytes → ℕ → Bytes → Bytes → ℕ × ℕ → Bytes
 at_place name first text message p = between name first message p.1 (within p.0 (chars text)) (beyond p.0 (chars text))
@@ -178,5 +178,13 @@ start_of text e = if e.start.hi == 0 then length text else e.start.lo
 abbrev pub place_of : Bytes → Refusal → ℕ × ℕ
 place_of text e = (start_of text e, max (start_of text e) e.end.hi)
 
+abbrev pub placed : Bytes → Bytes → Refusal → Bytes
+placed name text e = note name text e.text (place_of text e).0 (place_of text e).1
+
+-- that memory ran out has no place
+abbrev pub of_kind : ErrorKind → Bytes → Bytes → Refusal → Bytes
+of_kind OutOfMemory name text e = name ++ (codes ": " ++ e.text)
+of_kind _ name text e = placed name text e
+
 abbrev pub of_refusal : Bytes → Bytes → Refusal → Bytes
-of_refusal name text e = note name text e.text (place_of text e).0 (place_of text e).1
+of_refusal name text e = of_kind e.kind name text e

@@ -1,6 +1,6 @@
 //! A refusal for people: where in a text it points, what it says, and the line, with marks under the place.
 
-ghost use Rattle.std.specs.Prelude.{◌≡◌, ◌+◌, ◌<◌, ◌≤◌, ◌++◌, replicate, length, chars, codes, decimal, encode_utf8_all, IfOk, OnOk, string_bytes};
+ghost use Rattle.std.specs.Prelude.{◌≡◌, ◌+◌, ◌<◌, ◌≤◌, ◌++◌, replicate, length, chars, codes, decimal, IfOk, OnOk, string_bytes};
 ghost use Rattle.token_text.specs.Characters.{size};
 ghost use Rattle.token_text.specs.Front.{Past};
 ghost use Rattle.token_text.specs.Note as spec;
@@ -9,17 +9,18 @@ use crate::front::front;
 use crate::piece::{Leaf, Piece};
 use crate::word::{begins, split_first, up_to};
 use std::alloc::{AllocError, Global};
-use token_core::Error;
+use token_core::{Error, ErrorKind};
 use unicode_width::UnicodeWidthChar;
 
 /// Characters that show nothing or change how the text about them is shown, beside those of control: soft hyphens, joiners, spaces without a
 /// width, marks of direction and of order, fillers, and the byte order mark.
 const HIDDEN: [char; 45] = [
-    '\u{ad}', '\u{34f}', '\u{61c}', '\u{115f}', '\u{1160}', '\u{17b4}', '\u{17b5}', '\u{180b}', '\u{180c}', '\u{180d}', '\u{180e}',
-    '\u{200b}', '\u{200c}', '\u{200d}', '\u{200e}', '\u{200f}', '\u{2028}', '\u{2029}', '\u{202a}', '\u{202b}', '\u{202c}', '\u{202d}',
-    '\u{202e}', '\u{2060}', '\u{2061}', '\u{2062}', '\u{2063}', '\u{2064}', '\u{2065}', '\u{2066}', '\u{2067}', '\u{2068}', '\u{2069}',
-    '\u{206a}', '\u{206b}', '\u{206c}', '\u{206d}', '\u{206e}', '\u{206f}', '\u{3164}', '\u{feff}', '\u{ffa0}', '\u{fff9}', '\u{fffa}',
-    '\u{fffb}',
+    '\u{ad}', '\u{34f}', '\u{61c}', '\u{115f}', '\u{1160}', '\u{17b4}', '\u{17b5}', '\u{180b}',
+    '\u{180c}', '\u{180d}', '\u{180e}', '\u{200b}', '\u{200c}', '\u{200d}', '\u{200e}', '\u{200f}',
+    '\u{2028}', '\u{2029}', '\u{202a}', '\u{202b}', '\u{202c}', '\u{202d}', '\u{202e}', '\u{2060}',
+    '\u{2061}', '\u{2062}', '\u{2063}', '\u{2064}', '\u{2065}', '\u{2066}', '\u{2067}', '\u{2068}',
+    '\u{2069}', '\u{206a}', '\u{206b}', '\u{206c}', '\u{206d}', '\u{206e}', '\u{206f}', '\u{3164}',
+    '\u{feff}', '\u{ffa0}', '\u{fff9}', '\u{fffa}', '\u{fffb}',
 ];
 
 /// What a refusal of a text says and where it points, for people:
@@ -39,9 +40,24 @@ const HIDDEN: [char; 45] = [
 /// it ends (`place_of`), no further than its line, and are one at least. A place in a character is its front. The end of the text, and what is past
 /// it, is shown directly after the last token: not in an empty line, nor behind a comment.
 ///
-/// The note doesn't end in a line feed. It is refused for want of memory alone.
+/// That memory ran out has no place: its note is `NAME: TEXT`. No note ends in a line feed. One is refused for want of memory alone.
 pub fn note(alloc: Global, name: &str, text: &str, refusal: &Error) -> Result<String, AllocError>
     ensures { IfOk result (λ s. string_bytes s ≡ spec.of_refusal name.now text.now refusal.now) }
+{
+    match refusal.kind() {
+        ErrorKind::OutOfMemory => placeless(alloc, name, refusal.text()),
+        _ => placed(alloc, name, text, refusal),
+    }
+}
+
+fn placeless(alloc: Global, name: &str, said: &str) -> Result<String, AllocError>
+    ensures { IfOk result (λ s. string_bytes s ≡ name.now ++ (codes ": " ++ said.now)) }
+{
+    format!(in alloc; "{name}: {said}")
+}
+
+fn placed(alloc: Global, name: &str, text: &str, refusal: &Error) -> Result<String, AllocError>
+    ensures { IfOk result (λ s. string_bytes s ≡ spec.placed name.now text.now refusal.now) }
 {
     let (start, end) = place_of(text, refusal);
     note_at(alloc, name, text, refusal.text(), start, end)
@@ -95,18 +111,17 @@ pub fn note_from(
     let before = visible(alloc, last_line(head))?;
     let after = visible(alloc, following)?;
     let marked = visible(alloc, inside)?;
-    let blanks = drawn(alloc, before.as_str(), ' ', '\t')?;
-    let marks = marks(alloc, marked.as_str())?;
+    let front = before.as_str();
+    let back = after.as_str();
+    let pointed = marked.as_str();
+    let blanks = drawn(alloc, front, ' ', '\t')?;
+    let marks = marks(alloc, pointed)?;
+    let under = blanks.as_str();
     let line = line as usize + line_feeds(head);
-    let heading = heading(alloc, name, line, 1 + blanks.len(), message)?;
-    joined(
-        alloc,
-        heading.as_str(),
-        before.as_str(),
-        after.as_str(),
-        blanks.as_str(),
-        marks.as_str(),
-    )
+    let heading = heading(alloc, name, line, 1 + under.len(), message)?;
+    let first = heading.as_str();
+    let carets = marks.as_str();
+    joined(alloc, first, front, back, under, carets)
 }
 
 /// The first line of a note.
@@ -276,7 +291,7 @@ fn line_feeds(text: &str) -> usize
 
 /// A text as it is shown.
 fn visible(alloc: Global, text: &str) -> Result<String, AllocError>
-    ensures { IfOk result (λ s. string_bytes s ≡ encode_utf8_all (spec.visible (chars text.now))) }
+    ensures { IfOk result (λ s. string_bytes s ≡ spec.visible (chars text.now)) }
 {
     let mut out = String::new(alloc);
     let mut rest = text;
@@ -289,7 +304,7 @@ fn visible(alloc: Global, text: &str) -> Result<String, AllocError>
 
 /// Appends what stands for a character.
 fn push_visible(out: &mut String, ch: char) -> Result<(), AllocError>
-    ensures { OnOk result (string_bytes out.new ≡ string_bytes out.old ++ encode_utf8_all (spec.visible_char ch)) }
+    ensures { OnOk result (string_bytes out.new ≡ string_bytes out.old ++ spec.visible_char ch) }
 {
     if is_hidden(ch) {
         let number = ch as u32;
