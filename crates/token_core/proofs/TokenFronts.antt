@@ -53,8 +53,8 @@ module _ {A : Type 0} (Is : Bool → A → Toks → Toks → Type 0) (print : A 
     complete = λ s x k n v i o. let m = complete x s.rest k s.left s.last s.scope i in (at k s.left m.last s.scope, m.reads, refl, n);
     spells = λ x l r k i q o. again x l r k i;
     visible = λ x l r k i v q u o. whole x (row (print x) k) k (again x l r k i) u;
-    stays = λ x l r i q. refl;
-    same = λ x l r i q. refl;
+    stays = λ x l r k i q. refl;
+    same = λ x l r k i q. refl;
   }
 
   pub token_lawful : Lawful (g.token Is print reader).grammar
@@ -114,8 +114,8 @@ module _ {n k : ℕ} where
     complete = λ s x h m v i o. let q = complete n k o x s.rest h s.left s.last s.scope i in (at h s.left q.last s.scope, q.reads, refl, m);
     spells = λ x l r h i q o. again x l r h i;
     visible = λ x l r h i v q u o. whole_print x l r h i u;
-    stays = λ x l r i q. refl;
-    same = λ x l r i q. refl;
+    stays = λ x l r k i q. refl;
+    same = λ x l r k i q. refl;
   }
 
   mark_heads : g.is_named n k ≡ true → (s t : Stream) (r : Result (Mark n k) Refusal) → Reads (read n k s) r t → Heads (g.mark n k).grammar s r t

@@ -29,6 +29,7 @@ token Is print reader = record {
   grammar = record { spells = λ clear x l. Is clear x l done; normal = λ x. x; print = print; plain = λ x. Unit {0}; reader = reader };
   begins = Is;
   follows = λ l. true;
+  plain = λ x k. Unit {0};
 }
 
 -- ---- marks: what is promised is promised of a mark of as many characters as its number says
@@ -41,6 +42,7 @@ mark n k = record {
   grammar = (token (λ clear. IsMark clear) prints.mark (marks.read n k)).grammar;
   begins = λ clear. IsMark clear;
   follows = λ l. is_named n k;
+  plain = λ x l. Unit {0};
 }
 
 abbrev pub whole_mark : (n k : ℕ) → Toks → Option (Mark n k) → Type 0

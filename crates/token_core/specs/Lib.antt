@@ -28,6 +28,7 @@ pub mod Looks
 pub mod Terminated
 pub mod Loops
 pub mod Listed
+pub mod Names
 pub mod Positions
 pub mod Levels
 pub mod Cut

@@ -309,10 +309,7 @@ impl<const N: u32> Parse for Word<N> {
     }
 }
 
-fn parse_word<const N: u32>(
-    alloc: Global,
-    input: &mut ParseStream<'_>,
-) -> Result<Word<N>, Error>
+fn parse_word<const N: u32>(alloc: Global, input: &mut ParseStream<'_>) -> Result<Word<N>, Error>
     ensures parses { Parses (marks.read_named N) result input.old input.new }
 {
     let ident = input.read_named(alloc, N)?;

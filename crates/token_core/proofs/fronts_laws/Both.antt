@@ -95,10 +95,10 @@ module _ {A B : Type 0} (F : Fronting A) (G : Fronting B) where
             let e = second.unique x.1 k (subst (λ y. G.begins true x.1 y k) (sym f.1) i.2) o in
             (ap (λ y. (y, x.1)) f.0 ∙ ap (λ y. (a, y)) e.0, e.1)
 
-        reprinted : G.follows u.rest ≡ true → F.grammar.plain a → G.grammar.plain b → (k : Toks) → Visible k → G.follows k ≡ true → FrontAgain Pair (a, b) k
-        reprinted o x y k z q =
-            let e = second.reprint o y k z q in
-            let f = first.reprint (fit false b t.rest u.rest (second.sound o) o) x (printed_on G b k) e.visible (fit true (G.grammar.normal b) (printed_on G b k) k e.spells q) in
+        reprinted : G.follows u.rest ≡ true → (k : Toks) → F.plain a (printed_on G b k) → G.plain b k → Visible k → G.follows k ≡ true → FrontAgain Pair (a, b) k
+        reprinted o k x y z q =
+            let e = second.reprint o k y z q in
+            let f = first.reprint (fit false b t.rest u.rest (second.sound o) o) (printed_on G b k) x e.visible (fit true (G.grammar.normal b) (printed_on G b k) k e.spells q) in
             both_again a b k f e
 
         begun : Begun Pair s u (a, b)
@@ -106,7 +106,7 @@ module _ {A B : Type 0} (F : Fronting A) (G : Fronting B) where
           visible = second.visible;
           sound = λ o. (t.rest, first.sound (fit false b t.rest u.rest (second.sound o) o), second.sound o);
           unique = both_same;
-          reprint = λ o p. reprinted o p.0 p.1;
+          reprint = λ o k p. reprinted o k p.0 p.1;
         }
 
       begun_clean : Follows t u → u.left ≡ None → Begun Pair s u (a, b)

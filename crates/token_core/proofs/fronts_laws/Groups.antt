@@ -182,7 +182,7 @@ module _ (y : Delimiter) (name : Bytes) where
                   (subst (λ m. IsGrouped y F false (x, a) (group y x front.content u.rest) m) (sym end_rest)
                   (holds (subst (λ l. F.begins false a l done) child_rest (subst (λ m. F.begins false a c.rest m) over (f.sound (ap F.follows over ∙ q))))));
               unique = λ z k j q. same z k s.rest refl j q f;
-              reprint = λ q p k z w. group_again x a k seen.0 (f.reprint (ap F.follows over ∙ q) p done tt q) z;
+              reprint = λ q k p z w. group_again x a k seen.0 (f.reprint (ap F.follows over ∙ q) done p tt q) z;
             }
 
       pub group_fronted : Fronted Group s (Ok (x, a)) end

@@ -24,7 +24,7 @@ no_left t e = first_none t.left _ e
 module _ {A : Type 0} (F : Fronting A) (may_end : F.follows done ≡ true) where
   -- a grammar whose trees spell all of a list
   abbrev pub all_of : Grammar A
-  all_of = record { spells = λ clear a l. F.begins clear a l done; normal = F.grammar.normal; print = F.grammar.print; plain = F.grammar.plain; reader = F.grammar.reader }
+  all_of = record { spells = λ clear a l. F.begins clear a l done; normal = F.grammar.normal; print = F.grammar.print; plain = λ a. F.plain a done; reader = F.grammar.reader }
 
   whole_read : (a : A) (t : Stream) (o : Outcome A) → o ≡ Ok (a, t) → leaves t ≡ None → end_of o ≡ Ok a
   whole_read a t o e n = ap end_of e ∙ ap (ended a t) n
@@ -46,7 +46,7 @@ module _ {A : Type 0} (F : Fronting A) (may_end : F.follows done ≡ true) where
       record {
         sound = subst (λ k. F.begins false a s.rest k) e (h.sound o);
         unique = λ b i. (h.unique b done i may_end).0;
-        reprint = λ p. reprinted a (h.reprint o p done tt may_end);
+        reprint = λ p. reprinted a (h.reprint o done p tt may_end);
       }
 
   heads_at : (s t : Stream) (a : A) (o : Option Span) → Fronted F s (Ok a) t → s.left ≡ None → leaves t ≡ o → Headline all_of s.rest (kept a o)

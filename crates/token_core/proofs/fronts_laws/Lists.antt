@@ -15,7 +15,7 @@ use Rattle.token_core.specs.Terminated as turns
 use Rattle.token_core.specs.Terminated.{Terminates, Refused}
 use Rattle.token_core.specs.Toks.{Toks, done}
 use Rattle.token_core.specs.Trees.{row}
-use Rattle.token_core.specs.fronts.Lists.{Are, each_normal, print_each, all_plain, listing, Joins, listings, Read, Stopped, ReadTurns}
+use Rattle.token_core.specs.fronts.Lists.{Are, each_normal, print_each, each_plain, listing, Joins, listings, Read, Stopped, ReadTurns}
 use Rattle.token_core.proofs.Ends.{done_of, ended, not_over, over, row_size}
 use Rattle.token_core.proofs.Rows.{row-append}
 use Rattle.token_core.proofs.Steps.{chosen, link}
@@ -44,7 +44,7 @@ module _ {A P : Type 0} (F : Fronting A) (G : Fronting P) where
     ends : t.rest ≡ done
     sound : Are F G false b xs ps s.rest
     unique : (ys : List A) (qs : List P) → Are F G true b ys qs s.rest → (ys ≡ xs) × (qs ≡ ps)
-    reprint : all_plain F G F.grammar.plain xs → all_plain F G G.grammar.plain ps → Again b (xs, ps)
+    reprint : each_plain F G xs ps done → Again b (xs, ps)
 
   module _ (joins : Joins F G) where
     -- ---- the print
@@ -168,7 +168,7 @@ module _ {A P : Type 0} (F : Fronting A) (G : Fronting P) where
             ends = q;
             sound = subst (λ l. Are F G false b [] [] l) (sym q) (none_left tt);
             unique = λ ys qs i. nothing_else ys qs (subst (λ l. Are F G true b ys qs l) q i);
-            reprint = λ f g. none_again b;
+            reprint = λ f. none_again b;
           }
             where
               nothing_else : (ys : List A) (qs : List P) → Are F G true b ys qs done → (ys ≡ []) × (qs ≡ [])
@@ -183,7 +183,7 @@ module _ {A P : Type 0} (F : Fronting A) (G : Fronting P) where
             ends = q;
             sound = last_value (subst (λ l. F.begins false x s.rest l) q (f.sound may));
             unique = λ ys qs i. one_only ys qs s.rest refl i;
-            reprint = λ g h. alone_again x (f.reprint may g.0 done tt joins.ends) b;
+            reprint = λ g. alone_again x (f.reprint may done g tt joins.ends) b;
           }
         where
           one_only : (ys : List A) (qs : List P) (l : Toks) → s.rest ≡ l → Are F G true b ys qs l → (ys ≡ x ∷ []) × (qs ≡ [])
@@ -205,7 +205,7 @@ module _ {A P : Type 0} (F : Fronting A) (G : Fronting P) where
             ends = rest.ends;
             sound = value_and_mark (f.sound may) mark rest.sound;
             unique = λ ys qs j. same_list rest ys qs s.rest refl j;
-            reprint = λ y w. again_list f may m (rest.reprint y.1 w.1) y.0 w.0;
+            reprint = λ y. again_list f may m (rest.reprint y.2) y.0 y.1;
           }
         where
           same_list : Told false u xr pr t → (ys : List A) (qs : List P) (l : Toks) → s.rest ≡ l → Are F G true b ys qs l → (ys ≡ x ∷ xr) × (qs ≡ p ∷ pr)
@@ -217,11 +217,11 @@ module _ {A P : Type 0} (F : Fronting A) (G : Fronting P) where
               let others = rest.unique yr cr (subst (λ k. Are F G true false yr cr k) (sym c_same.1) r) in
               (ap (λ q. q ∷ yr) o.0 ∙ ap (λ q. x ∷ q) others.0, ap (λ q. q ∷ cr) c_same.0 ∙ ap (λ q. p ∷ q) others.1)
 
-          again_list : Begun F s a x → F.follows a.rest ≡ true → Begun G a u p → Again false (xr, pr) → F.grammar.plain x → G.grammar.plain p → Again b (x ∷ xr, p ∷ pr)
+          again_list : Begun F s a x → F.follows a.rest ≡ true → Begun G a u p → Again false (xr, pr) → F.plain x (printed_on G p (printed_list (xr, pr))) → G.plain p (printed_list (xr, pr)) → Again b (x ∷ xr, p ∷ pr)
           again_list f may m g y w =
-              let c = m.reprint (joins.after u.rest) w (printed_list (xr, pr)) g.visible (joins.after (printed_list (xr, pr))) in
+              let c = m.reprint (joins.after u.rest) (printed_list (xr, pr)) w g.visible (joins.after (printed_list (xr, pr))) in
               let k = printed_on G p (printed_list (xr, pr)) in
-              more_again x p (xr, pr) c (f.reprint may y k c.visible (joins.before true (G.grammar.normal p) k (printed_list (xr, pr)) c.spells)) g b
+              more_again x p (xr, pr) c (f.reprint may k y c.visible (joins.before true (G.grammar.normal p) k (printed_list (xr, pr)) c.spells)) g b
 
       listed_again : (v : Many A P) → Again true v → FrontAgain (listing F G) v done
       unfolding listed
@@ -244,7 +244,7 @@ module _ {A P : Type 0} (F : Fronting A) (G : Fronting P) where
             visible = subst Visible (sym h.ends) tt;
             sound = λ o. subst (λ m. (listing F G).begins false v s.rest m) (sym h.ends) h.sound;
             unique = λ w k j o. let u = h.unique w.0 w.1 (whole w k j o) in (ap (λ z. (z, w.1)) u.0 ∙ ap (λ z. (v.0, z)) u.1, h.ends ∙ sym (ended k o));
-            reprint = λ o q k y r. subst (λ m. FrontAgain (listing F G) v m) (sym (ended k r)) (listed_again v (h.reprint q.0 q.1));
+            reprint = λ o k q y r. subst (λ m. FrontAgain (listing F G) v m) (sym (ended k r)) (listed_again v (h.reprint (subst (λ m. each_plain F G v.0 v.1 m) (ended k r) q)));
           }
 
       -- ---- what was refused

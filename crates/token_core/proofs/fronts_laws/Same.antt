@@ -37,7 +37,7 @@ module _ {A B : Type 0} (F : Fronting A) (G : Fronting B) (to : A → B) (from :
       visible = h.visible;
       sound = λ o. same.made false a s.rest t.rest (h.sound (same.follows t.rest o));
       unique = λ b k i o. let u = h.unique (from b) k (same.parted true b s.rest k i) (same.follows k o) in (sym (same.back b) ∙ ap to u.0, u.1);
-      reprint = λ o p k v q. front_alike a k (h.reprint (same.follows t.rest o) (same.plain a p) k v (same.follows k q));
+      reprint = λ o k p v q. front_alike a k (h.reprint (same.follows t.rest o) k (same.plain a k p) v (same.follows k q));
     }
 
     pub answered_alike : (s t : Stream) (a : A) → Fronted F s (Ok a) t → Fronted G s (Ok (to a)) t

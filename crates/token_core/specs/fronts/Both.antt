@@ -1,6 +1,6 @@
 -- One thing after another on the front of a list.
 use Rattle.std.specs.Prelude.{◌≡◌, ◌⊎◌, Bool, true, ◌++◌}
-use Rattle.token_core.specs.Fronted.{Fronting, Fronts, given, by_part}
+use Rattle.token_core.specs.Fronted.{Fronting, Fronts, given, by_part, printed_on}
 use Rattle.token_core.specs.Reads.{Reader, ◌>>=◌, pure}
 use Rattle.token_core.specs.Refusal.{Refusal}
 use Rattle.token_core.specs.Stream.{Stream}
@@ -28,6 +28,7 @@ module _ {A B : Type 0} (F : Fronting A) (G : Fronting B) where
     };
     begins = BothBegin;
     follows = G.follows;
+    plain = λ x k. F.plain x.0 (printed_on G x.1 k) × G.plain x.1 k;
   }
 
   -- the second may follow the first

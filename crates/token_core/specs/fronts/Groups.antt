@@ -27,6 +27,7 @@ module _ {A : Type 0} (d : Delimiter) (name : Bytes) where
     };
     begins = IsGrouped d F;
     follows = λ k. F.follows done;
+    plain = λ x k. F.plain x.1 done;
   }
 
   -- what is promised of a group, by what is said of what it holds

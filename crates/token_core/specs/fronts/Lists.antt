@@ -1,6 +1,6 @@
 -- Values and marks in turn, up to the end of a stream: which lists they spell, and what a read of them promises.
 use Rattle.std.specs.Prelude.{◌≡◌, ◌<◌, Bool, true, false, List, [], ◌∷◌, map, Result, Ok, Err}
-use Rattle.token_core.specs.Fronted.{Fronting, Fronts, given, by_part, KeepsFront}
+use Rattle.token_core.specs.Fronted.{Fronting, Fronts, given, by_part, KeepsFront, printed_on}
 use Rattle.token_core.specs.Listed.{AreListed, Anywhere}
 use Rattle.token_core.specs.Lists.{joined}
 use Rattle.token_core.specs.Loops.{Many, size, terminated}
@@ -10,6 +10,7 @@ use Rattle.token_core.specs.Refusal.{Refusal}
 use Rattle.token_core.specs.Stream.{Stream}
 use Rattle.token_core.specs.Terminated.{Answers, Refused}
 use Rattle.token_core.specs.Toks.{Toks, done}
+use Rattle.token_core.specs.Trees.{row}
 
 module _ {A P : Type 0} (F : Fronting A) (G : Fronting P) where
   -- values and marks that spell all of a list, from a first value on or after others
@@ -22,9 +23,11 @@ module _ {A P : Type 0} (F : Fronting A) (G : Fronting P) where
   abbrev pub print_each : Many A P → Print
   print_each v = joined F.grammar.print G.grammar.print v.0 v.1
 
-  abbrev pub all_plain : {X : Type 0} → (X → Type 0) → List X → Type 0
-  all_plain plain [] = Unit {0}
-  all_plain plain (x ∷ xs) = plain x × all_plain plain xs
+  -- each is plain before what is printed behind it
+  abbrev pub each_plain : List A → List P → Toks → Type 0
+  each_plain [] ps k = Unit {0}
+  each_plain (x ∷ xs) [] k = F.plain x k
+  each_plain (x ∷ xs) (p ∷ ps) k = F.plain x (printed_on G p (row (print_each (xs, ps)) k)) × G.plain p (row (print_each (xs, ps)) k) × each_plain xs ps k
 
   -- the list, which is all of a stream
   abbrev pub listing : Fronting (Many A P)
@@ -33,11 +36,12 @@ module _ {A P : Type 0} (F : Fronting A) (G : Fronting P) where
       spells = λ clear v l. Are clear true v.0 v.1 l;
       normal = each_normal;
       print = print_each;
-      plain = λ v. all_plain F.grammar.plain v.0 × all_plain G.grammar.plain v.1;
+      plain = λ v. each_plain v.0 v.1 done;
       reader = terminated is_done F.grammar.reader G.grammar.reader;
     };
     begins = λ clear v l k. AreListed (λ (_ : Bool). F.begins clear) (G.begins clear) Anywhere true v.0 v.1 l k;
     follows = is_end;
+    plain = λ v k. each_plain v.0 v.1 k;
   }
 
   -- A mark or the end may follow a value, anything may follow a mark, and both take tokens.

@@ -11,9 +11,9 @@ module _ {A : Type 0} (sees : Toks → Bool) (F : Fronting A) where
     absent : {r : Toks} → sees r ≡ false → IsOptional clear None r r
     present : {a : A} {l r : Toks} → F.begins clear a l r → sees l ≡ true → IsOptional clear (Some a) l r
 
-  abbrev pub optional_plain : Option A → Type 0
-  optional_plain None = Unit {0}
-  optional_plain (Some a) = F.grammar.plain a
+  abbrev pub optional_plain : Option A → Toks → Type 0
+  optional_plain None k = Unit {0}
+  optional_plain (Some a) k = F.plain a k
 
   -- what may follow the tree, and isn't seen as one more
   abbrev pub option : Fronting (Option A)
@@ -22,11 +22,12 @@ module _ {A : Type 0} (sees : Toks → Bool) (F : Fronting A) where
       spells = λ clear x l. IsOptional clear x l done;
       normal = option_map F.grammar.normal;
       print = prints.optional F.grammar.print;
-      plain = optional_plain;
+      plain = λ x. optional_plain x done;
       reader = optional sees F.grammar.reader;
     };
     begins = IsOptional;
     follows = λ k. F.follows k && not (sees k);
+    plain = optional_plain;
   }
 
   -- what is spelt clearly is seen

@@ -13,5 +13,5 @@ module _ {A B : Type 0} (F : Fronting A) (G : Fronting B) (to : A → B) (from :
     pub follows : (k : Toks) → G.follows k ≡ true → F.follows k ≡ true
     pub normal : (a : A) → G.grammar.normal (to a) ≡ to (F.grammar.normal a)
     pub print : (a : A) → G.grammar.print (to a) ≡ F.grammar.print a
-    pub plain : (a : A) → G.grammar.plain (to a) → F.grammar.plain a
+    pub plain : (a : A) (k : Toks) → G.plain (to a) k → F.plain a k
     pub reads : (s t : Stream) (a : A) → F.grammar.reader s ≡ Ok (a, t) → G.grammar.reader s ≡ Ok (to a, t)
