@@ -57,7 +57,7 @@ fn what_a_type_goes_on_after_takes_one(rt: HostRuntime) {
         ("& ' a & ' static A", 2),
         ("& mut * const A", 2),
         ("fn ( A ) -> B", 2),
-        ("dyn impl fn for unsafe box", 6),
+        ("dyn impl fn for unsafe box", 7),
         ("a @ b @ c", 2),
         ("& A , & B", 1),
         ("& A | & B", 1),

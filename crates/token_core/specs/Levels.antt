@@ -5,7 +5,9 @@
 -- - by each group, one for what it holds, and after it the level is what it was before;
 -- - by each open `<`, three, up to its `>` or the end of its group (but after a literal and parentheses, where it is an operator);
 -- - by what a type, a bound or a pattern goes on after, one each: `&` and `*` (but after these and identifiers), `@`, `->`, and the words
---   `dyn`, `impl`, `fn`, `for`, `unsafe` and `box`.
+--   `dyn`, `impl`, `fn`, `for` and `box`; by `unsafe` two.
+--
+-- So a level of types that takes more of the stack counts as more levels.
 --
 -- What no `<` is open around goes back to the level at which its group begins, at each `,` and after braces. So it does, and each `<` of the
 -- group is closed, at `;`, `|`, `=>` and at words by which items, statements and expressions begin, since no type goes on there.
@@ -83,8 +85,8 @@ is_value Other = false
 abbrev pub with_last : Last → State → State
 with_last l x = state x.around x.base x.here x.angles l
 
-abbrev pub deeper : State → State
-deeper x = state x.around x.base (plus x.here 1) x.angles Other
+abbrev pub deeper : ℕ → State → State
+deeper n x = state x.around x.base (plus x.here n) x.angles Other
 
 abbrev pub anew : State → State
 anew x = state x.around x.base x.base 0 Other
@@ -92,7 +94,7 @@ anew x = state x.around x.base x.base 0 Other
 abbrev pub word : ℕ → State → State
 word n x =
     if is_quote x.last then with_last Other x else (
-    if deepens n then deeper x else (
+    if deepens n then deeper (if n == 16 then 2 else 1) x else (
     if begins_anew n then anew x else with_last Other x))
 
 abbrev pub name : State → State
@@ -105,7 +107,7 @@ abbrev pub close_angle : State → State
 close_angle x = if x.angles == 0 then with_last Other x else state x.around x.base (x.here - 3) (x.angles - 1) Other
 
 abbrev pub greater_after : Last → State → State
-greater_after Minus x = deeper x
+greater_after Minus x = deeper 1 x
 greater_after Equals x = anew x
 greater_after Quote x = close_angle x
 greater_after Name x = close_angle x
@@ -119,12 +121,12 @@ abbrev pub comma : State → State
 comma x = state x.around x.base (if x.angles == 0 then x.base else x.here) x.angles Other
 
 abbrev pub prefix_after : Last → State → State
-prefix_after Minus x = deeper x
-prefix_after Equals x = deeper x
-prefix_after Quote x = deeper x
+prefix_after Minus x = deeper 1 x
+prefix_after Equals x = deeper 1 x
+prefix_after Quote x = deeper 1 x
 prefix_after Name x = x
 prefix_after Value x = x
-prefix_after Other x = deeper x
+prefix_after Other x = deeper 1 x
 
 abbrev pub prefix : State → State
 prefix x = prefix_after x.last x
@@ -144,7 +146,7 @@ mark j c x =
     if c == 44 then comma x else (
     if c == 59 || c == 124 then anew x else (
     if c == 38 || c == 42 then prefix x else (
-    if c == 64 then deeper x else with_last (last_mark c j) x)))))
+    if c == 64 then deeper 1 x else with_last (last_mark c j) x)))))
 
 abbrev pub around_of : Delimiter → State → Around
 around_of b x = record { delimiter = b; base = x.base; here = x.here; angles = x.angles }

@@ -15,6 +15,9 @@ use std::marker::Model;
 /// How many levels an open `<` takes: what reads its arguments takes most of the stack.
 const ANGLE: usize = 3;
 
+/// The number of `unsafe` among the words; a type after `unsafe<'a>` takes two levels.
+const UNSAFE: u8 = 16;
+
 /// What stands just before a token, where that matters.
 #[derive(Clone, Copy, PartialEq, Eq)]
 pub(crate) enum Last {
@@ -73,7 +76,7 @@ fn deepens(word: u8) -> bool
     ensures { result ≡ spec.deepens word }
 {
     match word {
-        5 | 7 | 9 | 10 | 12 | 16 => true,
+        5 | 7 | 9 | 10 | 12 | UNSAFE => true,
         _ => false,
     }
 }
@@ -121,10 +124,10 @@ impl Levels {
         self.here
     }
 
-    fn deepen(&mut self)
-        ensures { self.new ≡ spec.deeper self.old }
+    fn deepen(&mut self, levels: usize)
+        ensures { self.new ≡ spec.deeper levels self.old }
     {
-        self.here = self.here.saturating_add(1);
+        self.here = self.here.saturating_add(levels);
         self.last = Last::Other;
     }
 
@@ -143,7 +146,7 @@ impl Levels {
         if self.last == Last::Quote {
             self.last = Last::Other;
         } else if deepens(number) {
-            self.deepen();
+            self.deepen(if number == UNSAFE { 2 } else { 1 });
         } else if begins_anew(number) {
             self.begin_anew();
         } else {
@@ -189,7 +192,7 @@ impl Levels {
         ensures { self.new ≡ spec.greater self.old }
     {
         match self.last {
-            Last::Minus => self.deepen(),
+            Last::Minus => self.deepen(1),
             Last::Equals => self.begin_anew(),
             Last::Quote | Last::Name | Last::Value | Last::Other => self.close_angle(),
         }
@@ -210,7 +213,7 @@ impl Levels {
     {
         match self.last {
             Last::Name | Last::Value => (),
-            Last::Minus | Last::Equals | Last::Quote | Last::Other => self.deepen(),
+            Last::Minus | Last::Equals | Last::Quote | Last::Other => self.deepen(1),
         }
     }
 
@@ -224,7 +227,7 @@ impl Levels {
             ',' => self.take_comma(),
             ';' | '|' => self.begin_anew(),
             '&' | '*' => self.take_prefix(),
-            '@' => self.deepen(),
+            '@' => self.deepen(1),
             _ => self.last = last_mark(ch, spacing),
         }
     }
@@ -416,9 +419,9 @@ impl<'a> Walk<'a> {
 
 /// How many levels readers of types, patterns and generics go down on a list, at most: calls within calls.
 ///
-/// A group takes a level for what it holds, and an open `<` three. So do a `&`, a `*` or a `@`, a `->`, and the words `dyn`, `impl`, `fn`,
-/// `for`, `unsafe` and `box` for what follows, up to the next `,` outside of `<`, or the next `;` or `|`, where readers are back (`specs/Levels.antt`).
-/// Copies, prints and drops of a list go down by groups alone. It takes time in proportion to the tokens, and no call for each group.
+/// A group takes a level for what it holds, an open `<` three; `&`, `*`, `@`, `->`, `dyn`, `impl`, `fn`, `for` and `box` take one for what
+/// follows, and `unsafe` two, up to the next `,` outside of `<`, or the next `;` or `|`, where readers are back (`specs/Levels.antt`).
+/// Copies, prints and the end of a list go down by its groups alone. It takes time in proportion to the tokens, and no call for each group.
 #[tactic(auto, unfolding(crate::specs::Levels::nesting))]
 pub fn nesting(alloc: Global, tokens: &TokenStream) -> Result<usize, AllocError>
     ensures { IfOk result (λ n. n ≡ spec.nesting tokens.now) }
