@@ -13,7 +13,7 @@ use Rattle.token_core.specs.declared.tree.TokenTree.TheFolds.{ind-TokenTree}
 use Rattle.token_core.specs.declared.tree.Group.{Group, roll-Group, map-Group}
 use Rattle.token_core.specs.Toks.{Toks, done, word, mark, lit, group, enter, leave}
 use Rattle.token_core.specs.Trees as s
-use Rattle.token_core.specs.Trees.{TokenStream, Before, trees, group_of, stream_of_trees, all, grouped, toks, row}
+use Rattle.token_core.specs.Trees.{TokenStream, trees, group_of, stream_of_trees, all, grouped, toks, row}
 use Rattle.token_core.specs.Rebuilt.{Levels, onto, enclose, levels, stream_of, Visible, IsVisible}
 use Rattle.token_core.proofs.Flats.{tree-roll, group-roll, stream-roll}
 use Rattle.token_core.proofs.Rows.{with_each, beside}
