@@ -4,13 +4,10 @@ use crate::string_tests::told;
 use crate::verbatim_tests::printed;
 use std::alloc::{AllocError, Global};
 use std::fmt::Write;
-use std::process::Abort;
 use std::test::Fail;
 use syn_mid::verbatim::Type;
 use token_core::{Delimiter, Error, LitStr, Spacing, TokenStream, TokenTree};
-use token_text::{
-    lex, lex_documented, lit_str_value, read_str, read_str_documented, text_of,
-};
+use token_text::{lex, lex_documented, lit_str_value, read_str_documented};
 
 /// Each tree after a space; a joint mark has a `+`.
 fn list(tokens: &TokenStream, out: &mut String) -> Result<(), AllocError> {
@@ -237,9 +234,11 @@ fn documentation_places(rt: HostRuntime) -> Result<(), Fail> {
         ("/// A.\r\nx", "0-7 [0-7 0-7 0-7 0-7 0-7] 8-9 "),
         ("x /*! \u{e9} */y", "0-1 2-11 2-11 [2-11 2-11 2-11 2-11 2-11] 11-12 "),
     ] {
-        let tokens = lex_documented(rt.alloc(), text)?;
         let mut got = String::new(rt.alloc());
-        places(&tokens, &mut got)?;
+        match lex_documented(rt.alloc(), text) {
+            Ok(tokens) => places(&tokens, &mut got)?,
+            Err(e) => got.push_str(e.text())?,
+        }
         assert_eq!(rt; got.as_str(), want);
     }
     Ok(())
@@ -262,7 +261,7 @@ fn documented_texts_are_read(rt: HostRuntime) -> Result<(), Fail> {
         assert_eq!(rt; got.as_str(), want);
     }
     let refused = told(rt.alloc(), read(rt.alloc(), "/// A.\nu8"))?;
-    assert!(rt; refused.as_str().starts_with("0-6"));
+    assert!(rt; refused.as_str().ends_with(" 0-6"));
     Ok(())
 }
 
