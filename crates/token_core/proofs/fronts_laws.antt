@@ -4,3 +4,4 @@ pub mod Both
 pub mod Same
 pub mod Lists
 pub mod Groups
+pub mod Options

@@ -325,10 +325,7 @@ impl<T: Parse, P: Parse> Punctuated<T, P> {
 
     /// The same; what it says of each value and mark has what these promise on fronts.
     #[tactic(auto, using(crate::proofs::Suffixes::follows))]
-    fn parse_turns(
-        alloc: Global,
-        input: &mut ParseStream<'_>,
-    ) -> Result<Punctuated<T, P>, Error>
+    fn parse_turns(alloc: Global, input: &mut ParseStream<'_>) -> Result<Punctuated<T, P>, Error>
         ensures reads { lists.ReadTurns T.reads T.refuses P.reads P.refuses T.fronts P.fronts
             input.old result input.new }
         ensures within { Follows input.old input.new }

@@ -8,6 +8,7 @@ ghost use Rattle.token_core.specs.Marks as marks;
 ghost use Rattle.token_core.specs.Positions.{Holds};
 ghost use Rattle.token_core.specs.Prints as prints;
 ghost use Rattle.token_core.specs.Fronted.{Fronted, KeepsFront, said};
+ghost use Rattle.token_core.specs.fronts.Options as options;
 ghost use Rattle.token_core.specs.Grammars as grammars;
 ghost use Rattle.token_core.specs.Headline.{Headline};
 ghost use Rattle.token_core.specs.Reads as spec;
@@ -297,10 +298,7 @@ impl<const N: u32> Parse for Word<N> {
     }
 }
 
-fn parse_word<const N: u32>(
-    alloc: Global,
-    input: &mut ParseStream<'_>,
-) -> Result<Word<N>, Error>
+fn parse_word<const N: u32>(alloc: Global, input: &mut ParseStream<'_>) -> Result<Word<N>, Error>
     ensures parses { Parses (marks.read_named N) result input.old input.new }
 {
     let ident = input.read_named(alloc, N)?;
@@ -635,6 +633,7 @@ impl<'a> ParseStream<'a> {
         ensures reads { Parsed (spec.OptionReads T.sees T.reads self.old) (spec.OptionRefuses T.sees T.refuses self.old)
             result self.new }
         ensures within { Follows self.old self.new }
+        ensures fronts { KeepsFront (options.options T.sees T.fronts) self.old result self.new }
     {
         if T::peek(self) {
             Ok(Some(T::parse(alloc, self)?))

@@ -72,14 +72,14 @@ module _ {A : Type 0} (sees : Toks → Bool) (F : Fronting A) where
     pub some_fronted : (s t : Stream) (a : A) → sees s.rest ≡ true → Fronted F s (Ok a) t → Fronted It s (Ok (Some a)) t
     some_fronted s t a w h = λ n v. (
       λ c.
-        let b = (h n v).0 c in
-        record {
-          visible = b.visible;
-          sound = λ o. present (b.sound (left (F.follows t.rest) (not (sees t.rest)) o)) w;
-          unique = λ y k i o. something s.rest k y s.rest ((y ≡ Some a) × (t.rest ≡ k)) refl w
-              (λ x e j. let u = b.unique x k j (left (F.follows k) (not (sees k)) o) in (e ∙ ap (λ (z : A). Some z) u.0, u.1)) i;
-          reprint = λ o p k z q. some_again a k (b.reprint (left (F.follows t.rest) (not (sees t.rest)) o) p k z (left (F.follows k) (not (sees k)) q));
-        },
+          let b = (h n v).0 c in
+          record {
+            visible = b.visible;
+            sound = λ o. present (b.sound (left (F.follows t.rest) (not (sees t.rest)) o)) w;
+            unique = λ y k i o. something s.rest k y s.rest ((y ≡ Some a) × (t.rest ≡ k)) refl w
+                (λ x e j. let u = b.unique x k j (left (F.follows k) (not (sees k)) o) in (e ∙ ap (λ (z : A). Some z) u.0, u.1)) i;
+            reprint = λ o p k z q. some_again a k (b.reprint (left (F.follows t.rest) (not (sees t.rest)) o) p k z (left (F.follows k) (not (sees k)) q));
+          },
       λ y k i o. something s.rest k y s.rest (t.left ≡ None) refl w (λ x e j. (h n v).1 x k j (left (F.follows k) (not (sees k)) o)) i,
     )
 
