@@ -1,4 +1,4 @@
--- The turns of nested properties are the lists of the grammar, and these are turns.
+-- The turns of nested properties are the lists of the grammar.
 use Rattle.std.proofs.Common.{◌≡◌, ◌≢◌, ◌⊎◌, true, false, ◌<◌, length, [], ◌∷◌, Option, Some, None, Result, Ok, Err, inl, inr, refl, sym, ◌∙◌, ap, subst, codes}
 use Rattle.token_core.specs.declared.mark.Spans.{Spans}
 use Rattle.token_core.specs.declared.span.DelimSpan.{DelimSpan}

@@ -34,7 +34,7 @@ use Rattle.syn_path.specs.declared.path.QSelfOf.{QSelfOf}
 use Rattle.syn_ty.specs.generics.Modifiers.{modifiers_of}
 use Rattle.syn_ty.specs.generics.Params.{bound_lifetimes_of, capture_of, const_param_of, lifetime_param_of, trait_bound_of, type_param_of}
 use Rattle.syn_ty.specs.path.Paths.{angle_of, parens_of, assoc_type_of, assoc_const_of, constraint_of}
-use Rattle.syn_ty.specs.ty.Trees.{Layer, GenericParam, TypeParam, ConstParam, BoundLifetimes, TypeParamBound, TraitBound, PathArguments, Path, PathSegment, GenericArgument, AngleBracketed, AssocType, AssocConst, Constraint, Parenthesized, TypeTree, QSelf, TypeArray, TypeFnPtr, TypeGroup, TypeImplTrait, TypeParen, TypePath, TypePtr, TypeReference, TypeSlice, TypeTraitObject, TypeTuple, NamedArg, ReturnType}
+use Rattle.syn_ty.specs.ty.Trees.{Layer, GenericParam, TypeParam, ConstParam, BoundLifetimes, TypeParamBound, TraitBound, PathArguments, Path, PathSegment, GenericArgument, AngleBracketed, AssocType, Constraint, Parenthesized, TypeTree, QSelf, TypeArray, TypeFnPtr, TypeGroup, TypeImplTrait, TypeParen, TypePath, TypePtr, TypeReference, TypeSlice, TypeTraitObject, TypeTuple, NamedArg, ReturnType}
 use Rattle.syn_ty.specs.ty.Types.{array_with, fn_ptr_with, group_with, impl_trait_with, infer_with, macro_type_with, named_arg_of, never_with, paren_with, ptr_with, qself_of, qualified_with, reference_with, slice_with, trait_object_with, tuple_with, variadic_of}
 use Rattle.syn_path.specs.aside.Paths as paths
 use Rattle.syn_path.specs.aside.Paths.{mac}

@@ -15,7 +15,7 @@ use Rattle.syn_forms.proofs.nested_laws.Ahead.{ahead-is, weight}
 use Rattle.syn_ty.specs.path.Reading.{angle_bracketed, arguments_after, turbofish}
 use Rattle.syn_ty.specs.path.Spelling.{some_arguments}
 use Rattle.syn_ty.proofs.ty_laws.complete.Leaves.{comma_light, later, not_more}
-use Rattle.syn_ty.proofs.ty_laws.complete.Within.{Firsts, Less, Meets, NoMore}
+use Rattle.syn_ty.proofs.ty_laws.complete.Within.{Less, Meets, NoMore}
 
 -- ---- marks
 
@@ -60,18 +60,16 @@ no_further l k f g d e sc limit h lim =
     let y = ahead-is (at k g e sc) in
     omega (arith, h, lim, x, y)
 
--- ---- how they begin
+-- ---- the reads
 
-module _ {A E : Type 0} (part : Manner → Parts A E) (firsts : Firsts part) where
+module _ {A E : Type 0} (part : Manner → Parts A E) where
   -- arguments joined by commas
   abbrev Arguments : Bool → List (GenericArgument A E) → List token.Comma → Toks → Toks → Type 0
   Arguments = AreListed (λ (_ : Bool). (part clearly).argument) (IsMark true) Anywhere
 
--- ---- the reads
-
 module _ {A E : Type 0} (r : Readers A E) (part : Manner → Parts A E) (limit : ℕ) (meets : Meets r part limit) where
   -- up to the `>`
-  listed_met : (xs : List (GenericArgument A E)) (cs : List token.Comma) (l k : Toks) (f : Option Span) (e : Span) (sc : Scope) → ahead (at l f e sc) < limit → Arguments part meets.firsts true xs cs l k →
+  listed_met : (xs : List (GenericArgument A E)) (cs : List token.Comma) (l k : Toks) (f : Option Span) (e : Span) (sc : Scope) → ahead (at l f e sc) < limit → Arguments part true xs cs l k →
       sees_gt k ≡ true → ends_constraint k ≡ true → Reads_to (terminated sees_gt (r an_argument) comma) (xs, cs) l k f e sc
   listed_met xs cs l k f e sc h i seen ends =
       listed_here (λ (_ : Bool). sees_gt) (λ (_ : Bool). r an_argument) (λ l. not (sees_gt l)) comma (λ (_ : Bool). (part clearly).argument) (IsMark true) Anywhere (λ l. ends_constraint l ≡ true) (λ l. ahead (at l none_here none sc) < limit) sc
@@ -88,7 +86,7 @@ module _ {A E : Type 0} (r : Readers A E) (part : Manner → Parts A E) (limit :
       none_here = None
 
   angled_met : (o : token.Lt) (xs : List (GenericArgument A E)) (cs : List token.Comma) (g : token.Gt) (l m n k : Toks) (f : Option Span) (e : Span) (sc : Scope) → ahead (at l f e sc) ≤ limit → IsMark true o l m →
-      Arguments part meets.firsts true xs cs m n → IsMark true g n k → Reads_to (heads.angled (r an_argument)) (o, (xs, cs), g) l k f e sc
+      Arguments part true xs cs m n → IsMark true g n k → Reads_to (heads.angled (r an_argument)) (o, (xs, cs), g) l k f e sc
   unfolding heads.angled
   angled_met o xs cs g l m n k f e sc h i v j =
       let a = mark_complete true {n = 2} {k = 1} refl (omega arith) o l m f e sc i in
@@ -98,7 +96,7 @@ module _ {A E : Type 0} (r : Readers A E) (part : Manner → Parts A E) (limit :
 
   -- after a `::` that was read, or none
   pub arguments_after_met : (c : Option Sep) (o : token.Lt) (xs : List (GenericArgument A E)) (cs : List token.Comma) (g : token.Gt) (l m n k : Toks) (f : Option Span) (e : Span) (sc : Scope) → ahead (at l f e sc) ≤ limit →
-      IsMark true o l m → Arguments part meets.firsts true xs cs m n → IsMark true g n k → Reads_to (arguments_after r c) (angle_of c o (xs, cs) g) l k f e sc
+      IsMark true o l m → Arguments part true xs cs m n → IsMark true g n k → Reads_to (arguments_after r c) (angle_of c o (xs, cs) g) l k f e sc
   arguments_after_met c o xs cs g l m n k f e sc h i v j = let u = angled_met o xs cs g l m n k f e sc h i v j in record { last = u.last; reads = link _ u.reads refl }
 
   optional_sep_met : (c : Option Sep) (o : token.Lt) (l m k : Toks) (f : Option Span) (e : Span) (sc : Scope) → IsOptional (IsMark true) c l m → IsMark true o m k → Reads_to (optional sees_sep sep) c l m f e sc

@@ -1,4 +1,4 @@
--- The bounds after `dyn` and `impl`, and those of a trait object without `dyn`, that a list spells clearly are what their reads answer; `dyn *` is held verbatim.
+-- The bounds after `dyn` and `impl`, and those of a trait object without `dyn`, by itself or from a lifetime on, that a list spells clearly are what their reads answer; `dyn *` is held verbatim.
 use Rattle.std.specs.List.{list_any}
 use Rattle.std.proofs.lemmas.Bool.{eqb-true}
 use Rattle.std.proofs.lemmas.Slice.Eq.{bytes_eq-Decides}

@@ -1,4 +1,4 @@
--- Single forms of paths, bounds, parameters and types, what they hold read by the knot: where one is read, the stream stands further on.
+-- A path that may be qualified, by itself, what it holds read by the knot: where it is read, the stream stands further on.
 use Rattle.std.proofs.Common.{List}
 use Rattle.syn_ty.proofs.ty_laws.words.Tokens.{Reader}
 use Rattle.syn_ty.proofs.ty_laws.words.Paths.{PathStyle, ReadValues, Along}

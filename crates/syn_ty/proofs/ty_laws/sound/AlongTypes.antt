@@ -2,7 +2,7 @@
 use Rattle.std.proofs.Common.{Bool, List, Option, Some, None}
 use Rattle.syn_ty.proofs.ty_laws.words.Tokens.{Span, GroupToken, Paren, Many, Item, Reader}
 use Rattle.syn_ty.proofs.ty_laws.words.Paths.{ReadValues, Along}
-use Rattle.syn_ty.proofs.ty_laws.words.Forms.{ParenContent, Object, Opaque, TypePlace, Plus, NoPlus}
+use Rattle.syn_ty.proofs.ty_laws.words.Forms.{ParenContent, Object, Opaque, TypePlace, NoPlus}
 use Rattle.syn_ty.proofs.ty_laws.words.Types.{Point, Readers, a_bound, a_type, some_arguments, BoundLifetimes, Path, QSelf, TraitBound, TypeParamBound, TypePath, TypeTree}
 use Rattle.syn_forms.specs.declared.groups.ParenContent.TheVariants as held
 use Rattle.syn_ty.specs.ty.Reading as reading

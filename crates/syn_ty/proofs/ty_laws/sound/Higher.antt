@@ -48,13 +48,10 @@ module _ {A E : Type 0} (shown : Bool → List A → Toks → Toks → Type 0) (
   pub higher : (n : ℕ) (how : Manner) → Up (spelt_to shown spelt n how) (spelt_to shown spelt (suc n) how)
   higher n how = higher_to n (suc n) (omega arith) how
 
-  -- ---- each relation, however high
+  -- ---- bounds, however high: they end the same
 
-  -- and it ends the same
   abbrev pub GrowsEnding : {F : Type 0} → ((Manner → Parts A E) → Manner → End → Relation F) → Type 0
   GrowsEnding {F} Is = (n m : ℕ) → n ≤ m → (how : Manner) (e : End) (x : F) (l r : Toks) → Is (spelt_to shown spelt n) how e x l r → Is (spelt_to shown spelt m) how e x l r
-
-  -- ---- generics
 
   pub bound_higher : (place : BoundPlace) → GrowsEnding (λ part how. IsBound part how place)
   bound_higher place n m h how e x l r i = bound_up (higher_to n m h) i
