@@ -75,6 +75,8 @@ mod path_front_tests;
 #[cfg(test)]
 mod path_tests;
 #[cfg(test)]
+mod plain_front_tests;
+#[cfg(test)]
 mod plain_type_tests;
 #[cfg(test)]
 mod qualified_tests;

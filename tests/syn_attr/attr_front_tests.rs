@@ -78,7 +78,7 @@ fn reads_inner_attributes_up_to_the_last(rt: HostRuntime) {
         ("#[a]", "| # [a]"),
         ("#![a] #[b]", "# ! [a] | # [b]"),
         ("#![a] # b", "# ! [a] | # b"),
-        ("#![a] ! #![b]", "# ! [a] | ! # ! [b]"),
+        ("#![a] ! #![b]", "# ! [a] | ! #! [b]"),
     ] {
         says(&rt, alloc, read_and_left(alloc, text, inner), wanted);
     }

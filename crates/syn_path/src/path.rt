@@ -118,7 +118,7 @@ pub trait ReadArguments: Arguments {
     fn parse_path(alloc: Global, input: &mut ParseStream<'_>) -> Result<PathOf<Self>, Error>
         ensures parses { Parses reads_path result input.old input.new }
         ensures promise { Keeps promise_path input.old result input.new }
-        ensures front { Takes spells_path input.old result input.new }
+        ensures takes { Takes spells_path input.old result input.new }
         ensures fronts { KeepsFront fronts_path input.old result input.new };
 
     /// Reads a segment.
@@ -128,7 +128,7 @@ pub trait ReadArguments: Arguments {
     ) -> Result<PathSegmentOf<Self>, Error>
         ensures parses { Parses reads_segment result input.old input.new }
         ensures promise { Keeps promise_segment input.old result input.new }
-        ensures front { Takes spells_segment input.old result input.new }
+        ensures takes { Takes spells_segment input.old result input.new }
         ensures fronts { KeepsFront fronts_segment input.old result input.new };
 }
 
@@ -355,9 +355,9 @@ impl<A: Arguments> PathOf<A> {
     /// list it keeps that of fronts, where the end follows or anything but a `::`.
     pub fn parse_mod_style(alloc: Global, input: &mut ParseStream<'_>) -> Result<PathOf<A>, Error>
         ensures parses { Parses (reading.mod_style A.absent) result input.old input.new }
-        ensures front { Visible input.old.rest →
+        ensures takes { Visible input.old.rest →
             IfOk result (λ p. IsModPath false A.absent p input.old.rest input.new.rest) }
-        ensures headline { Heads (grammars.mod_style A.absent A.shown) input.old result input.new }
+        ensures promise { Heads (grammars.mod_style A.absent A.shown) input.old result input.new }
         ensures fronts { Fronted (grammars.mod_style_front A.absent A.shown) input.old result input.new }
     {
         parse_bare_path(alloc, input, SegmentStyle::Mod)
@@ -378,7 +378,7 @@ impl<A: ReadArguments> Parse for PathOf<A> {
         ensures reads { Reads (A.reads_path input.old) result input.new }
         ensures within { Follows input.old input.new }
         ensures promise { Keeps A.promise_path input.old result input.new }
-        ensures front { Takes A.spells_path input.old result input.new }
+        ensures takes { Takes A.spells_path input.old result input.new }
         ensures fronts { KeepsFront A.fronts_path input.old result input.new }
     {
         A::parse_path(alloc, input)
@@ -399,7 +399,7 @@ impl<A: ReadArguments> Parse for PathSegmentOf<A> {
         ensures reads { Reads (A.reads_segment input.old) result input.new }
         ensures within { Follows input.old input.new }
         ensures promise { Keeps A.promise_segment input.old result input.new }
-        ensures front { Takes A.spells_segment input.old result input.new }
+        ensures takes { Takes A.spells_segment input.old result input.new }
         ensures fronts { KeepsFront A.fronts_segment input.old result input.new }
     {
         A::parse_segment(alloc, input)

@@ -66,18 +66,16 @@ module _ {A : Type 0} (spells : Bool → A → Toks → Toks → Type 0) (normal
     same = λ a l h p. (again a l done h).same;
   }
 
-  -- on the front of a list, where nothing that it holds is held verbatim
-  abbrev pub FrontOf : (Toks → Bool) → Fronting A
-  FrontOf follows = record { grammar = Of; begins = spells; follows = follows; plain = λ x k. Unit {0} }
+-- ---- the same on the front of a list, before what may follow
 
-  pub fronts_by : (follows : Toks → Bool) → ((s t : Stream) (a : A) → Visible s.rest → reader s ≡ Ok (a, t) → TookOne (spells false) s t a) →
-      ((s : Stream) (a : A) (k : Toks) → spells true a s.rest k → follows k ≡ true → Reads_to reader a s.rest k s.left s.last s.scope) →
-      ((a : A) (l r : Toks) → spells false a l r → AgainFront (spells true) normal print a l r) → FrontLaws (FrontOf follows)
-  fronts_by follows sound complete again = record {
-    sound = λ s t a n v e h. let k = sound s t a v e in (k.seen, λ o. k.spelt h);
-    complete = λ s a k n v i o. let w = complete s a k i o in (at k s.left w.last s.scope, w.reads, refl, n);
-    spells = λ a l r k i p o. (again a l r i).spelt k;
-    visible = λ a l r k i u p v o. (again a l r i).visible k u v;
-    stays = λ a l r k i p. (again a l r i).stays;
-    same = λ a l r k i p. (again a l r i).same;
-  }
+pub front_lawful_by : {A : Type 0} (F : Fronting A) → ((s t : Stream) (a : A) → Visible s.rest → F.grammar.reader s ≡ Ok (a, t) → TookOne (F.begins false) s t a) →
+    ((s : Stream) (a : A) (k : Toks) → F.begins true a s.rest k → F.follows k ≡ true → Reads_to F.grammar.reader a s.rest k s.left s.last s.scope) →
+    ((a : A) (l r : Toks) → F.begins false a l r → AgainFront (F.begins true) F.grammar.normal F.grammar.print a l r) → FrontLaws F
+front_lawful_by F sound complete again = record {
+  sound = λ s t a n v e c. let k = sound s t a v e in (k.seen, λ o. k.spelt c);
+  complete = λ s a k n v i o. let w = complete s a k i o in (at k s.left w.last s.scope, w.reads, refl, n);
+  spells = λ a l r k i p o. (again a l r i).spelt k;
+  visible = λ a l r k i u p v o. (again a l r i).visible k u v;
+  stays = λ a l r k i p. (again a l r i).stays;
+  same = λ a l r k i p. (again a l r i).same;
+}

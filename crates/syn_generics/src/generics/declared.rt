@@ -298,7 +298,7 @@ impl<A: Attributes, E: Value> Parse for GenericsOf<A, E> {
         ensures reads { Reads (alone.generics A.reads E.reads input.old) result input.new }
         ensures within { Follows input.old input.new }
         ensures promise { Heads (promises.generics A.Attributes E.Value) input.old result input.new }
-        ensures front { Takes (fronts.generics A.spells E.spells) input.old result input.new }
+        ensures takes { Takes (fronts.generics A.spells E.spells) input.old result input.new }
         ensures fronts { Fronted (promises.generics_front A.Attributes E.Value) input.old result input.new }
     {
         parse_generics(alloc, input)
@@ -328,7 +328,7 @@ impl<A: Attributes, E: Value> Parse for WhereClauseOf<A, E> {
         ensures reads { Reads (alone.where_clause A.reads E.reads input.old) result input.new }
         ensures within { Follows input.old input.new }
         ensures promise { Heads (promises.where_clause A.Attributes E.Value) input.old result input.new }
-        ensures front { Takes (fronts.where_clause A.spells E.spells) input.old result input.new }
+        ensures takes { Takes (fronts.where_clause A.spells E.spells) input.old result input.new }
         ensures fronts { Fronted (promises.where_clause_front A.Attributes E.Value) input.old result input.new }
         ensures printed { IfOk result (λ x. (promises.optional_where_clause A.Attributes E.Value).plain (Some x) →
             Reprinted (promises.optional_where_clause A.Attributes E.Value) (Some x)) }
@@ -346,7 +346,7 @@ impl<A: Attributes, E: Value> WhereClauseOf<A, E> {
     ) -> Result<Option<WhereClauseOf<A, E>>, Error>
         ensures parses { Parses (alone.optional_where_clause A.reads E.reads) result input.old input.new }
         ensures promise { Heads (promises.optional_where_clause A.Attributes E.Value) input.old result input.new }
-        ensures front { Takes (fronts.optional_where_clause A.spells E.spells) input.old result input.new }
+        ensures takes { Takes (fronts.optional_where_clause A.spells E.spells) input.old result input.new }
         ensures fronts { Fronted (promises.optional_where_clause_front A.Attributes E.Value)
             input.old result input.new }
     {
@@ -390,7 +390,7 @@ impl<A: Attributes, E: Value> Parse for WherePredicateOf<A, E> {
         ensures reads { Reads (alone.predicate A.reads E.reads input.old) result input.new }
         ensures within { Follows input.old input.new }
         ensures promise { Heads (promises.predicate A.Attributes E.Value) input.old result input.new }
-        ensures front { Takes (fronts.predicate A.spells E.spells) input.old result input.new }
+        ensures takes { Takes (fronts.predicate A.spells E.spells) input.old result input.new }
         ensures fronts { Fronted (promises.predicate_front A.Attributes E.Value) input.old result input.new }
     {
         parse_predicate(alloc, input)

@@ -48,7 +48,7 @@ impl<X: Subtree> Pat<X> {
     pub fn parse_single(alloc: Global, input: &mut ParseStream<'_>) -> Result<Pat<X>, Error>
         ensures parses { Parses (knot.pat X.reads (type_names X.reads) Single) result input.old input.new }
         ensures promise { Heads (promises.pat X.Subtree Single) input.old result input.new }
-        ensures front { Takes (fronts.pat X.spells Single) input.old result input.new }
+        ensures takes { Takes (fronts.pat X.spells Single) input.old result input.new }
         ensures fronts { Fronted (promises.pat_front X.Subtree Single) input.old result input.new }
     {
         parse_in::<X, PathArguments<X>, QSelf<X>, Type<X>>(alloc, input, PatPlace::Single)
@@ -64,7 +64,7 @@ impl<X: Subtree> Pat<X> {
     pub fn parse_multi(alloc: Global, input: &mut ParseStream<'_>) -> Result<Pat<X>, Error>
         ensures parses { Parses (knot.pat X.reads (type_names X.reads) Multi) result input.old input.new }
         ensures promise { Heads (promises.pat X.Subtree Multi) input.old result input.new }
-        ensures front { Takes (fronts.pat X.spells Multi) input.old result input.new }
+        ensures takes { Takes (fronts.pat X.spells Multi) input.old result input.new }
         ensures fronts { Fronted (promises.pat_front X.Subtree Multi) input.old result input.new }
     {
         parse_in::<X, PathArguments<X>, QSelf<X>, Type<X>>(alloc, input, PatPlace::Multi)
@@ -83,7 +83,7 @@ impl<X: Subtree> Pat<X> {
     ) -> Result<Pat<X>, Error>
         ensures parses { Parses (knot.pat X.reads (type_names X.reads) LeadingVert) result input.old input.new }
         ensures promise { Heads (promises.pat X.Subtree LeadingVert) input.old result input.new }
-        ensures front { Takes (fronts.pat X.spells LeadingVert) input.old result input.new }
+        ensures takes { Takes (fronts.pat X.spells LeadingVert) input.old result input.new }
         ensures fronts { Fronted (promises.pat_front X.Subtree LeadingVert) input.old result input.new }
     {
         parse_in::<X, PathArguments<X>, QSelf<X>, Type<X>>(alloc, input, PatPlace::LeadingVert)
@@ -180,7 +180,7 @@ impl<X: Subtree> Parse for PatType<X> {
         ensures reads { Reads (knot.typed X.reads input.old) result input.new }
         ensures within { Follows input.old input.new }
         ensures promise { Heads (promises.typed X.Subtree) input.old result input.new }
-        ensures front { Takes (fronts.typed X.spells) input.old result input.new }
+        ensures takes { Takes (fronts.typed X.spells) input.old result input.new }
         ensures fronts { Fronted (promises.typed_front X.Subtree) input.old result input.new }
     {
         parse_typed::<X, PathArguments<X>, QSelf<X>, Type<X>>(alloc, input)

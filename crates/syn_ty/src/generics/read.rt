@@ -1127,7 +1127,7 @@ impl Parse for CapturedParam {
         ensures within { Follows input.old input.new }
         ensures promise { Heads promises.captured input.old result input.new }
         ensures fronts { Fronted frontings.captured input.old result input.new }
-        ensures front { Takes IsCaptured input.old result input.new }
+        ensures takes { Takes IsCaptured input.old result input.new }
     {
         parse_captured(alloc, input)
     }
@@ -1155,7 +1155,7 @@ impl Parse for PreciseCapture {
         ensures within { Follows input.old input.new }
         ensures promise { Heads promises.capture input.old result input.new }
         ensures fronts { Fronted frontings.capture input.old result input.new }
-        ensures front { Takes (IsCapture false) input.old result input.new }
+        ensures takes { Takes (IsCapture false) input.old result input.new }
     {
         parse_capture(alloc, input)
     }
@@ -1185,7 +1185,7 @@ impl<A: Attributes, E: Value> Parse for BoundLifetimesOf<GenericParamOf<A, E>> {
         ensures within { Follows input.old input.new }
         ensures promise { Heads (promises.binder A.Attributes E.Value) input.old result input.new }
         ensures fronts { Fronted (frontings.binder A.Attributes E.Value) input.old result input.new }
-        ensures front { Takes (fronts.binder A.spells E.spells) input.old result input.new }
+        ensures takes { Takes (fronts.binder A.spells E.spells) input.old result input.new }
     {
         parse_binder(alloc, input)
     }
@@ -1201,7 +1201,7 @@ impl<A: Attributes, E: Value> BoundLifetimesOf<GenericParamOf<A, E>> {
         ensures parses { Parses (knot.optional_binder A.reads E.reads) result input.old input.new }
         ensures promise { Heads (promises.optional_binder A.Attributes E.Value) input.old result input.new }
         ensures fronts { Fronted (frontings.optional_binder A.Attributes E.Value) input.old result input.new }
-        ensures front { Takes (fronts.optional_binder A.spells E.spells) input.old result input.new }
+        ensures takes { Takes (fronts.optional_binder A.spells E.spells) input.old result input.new }
     {
         parse_optional_binder(alloc, input)
     }
@@ -1231,7 +1231,7 @@ impl<A: Attributes, E: Value> Parse for TypeParamBoundOf<A, E> {
         ensures within { Follows input.old input.new }
         ensures promise { Heads (promises.bound A.Attributes E.Value) input.old result input.new }
         ensures fronts { Fronted (frontings.bound A.Attributes E.Value) input.old result input.new }
-        ensures front { Takes (fronts.bound A.spells E.spells) input.old result input.new }
+        ensures takes { Takes (fronts.bound A.spells E.spells) input.old result input.new }
     {
         parse_bound(alloc, input, BoundPlace::Opaque)
     }
@@ -1259,7 +1259,7 @@ impl<A: Attributes, E: Value> Parse for TraitBoundOf<A, E> {
         ensures within { Follows input.old input.new }
         ensures promise { Heads (promises.trait_bound A.Attributes E.Value) input.old result input.new }
         ensures fronts { Fronted (frontings.trait_bound A.Attributes E.Value) input.old result input.new }
-        ensures front { Takes (fronts.trait_bound A.spells E.spells) input.old result input.new }
+        ensures takes { Takes (fronts.trait_bound A.spells E.spells) input.old result input.new }
     {
         parse_trait_bound(alloc, input)
     }
@@ -1287,7 +1287,7 @@ impl<A: Attributes, E: Value> Parse for GenericParamOf<A, E> {
         ensures within { Follows input.old input.new }
         ensures promise { Heads (promises.param A.Attributes E.Value) input.old result input.new }
         ensures fronts { Fronted (frontings.param A.Attributes E.Value) input.old result input.new }
-        ensures front { Takes (fronts.param A.spells E.spells) input.old result input.new }
+        ensures takes { Takes (fronts.param A.spells E.spells) input.old result input.new }
     {
         parse_param(alloc, input, ParamPlace::Binder)
     }
@@ -1314,7 +1314,7 @@ impl<A: Attributes> Parse for LifetimeParamOf<A> {
         ensures within { Follows input.old input.new }
         ensures promise { Heads (promises.lifetime_param A.Attributes) input.old result input.new }
         ensures fronts { Fronted (frontings.lifetime_param A.Attributes) input.old result input.new }
-        ensures front { Takes (spelt.IsLifetimeAlone A.spells loosely) input.old result input.new }
+        ensures takes { Takes (spelt.IsLifetimeAlone A.spells loosely) input.old result input.new }
     {
         lifetime_param(alloc, input)
     }
@@ -1341,7 +1341,7 @@ impl<A: Attributes, E: Value> Parse for TypeParamOf<A, E> {
         ensures within { Follows input.old input.new }
         ensures promise { Heads (promises.type_param A.Attributes E.Value) input.old result input.new }
         ensures fronts { Fronted (frontings.type_param A.Attributes E.Value) input.old result input.new }
-        ensures front { Takes (fronts.type_param A.spells E.spells) input.old result input.new }
+        ensures takes { Takes (fronts.type_param A.spells E.spells) input.old result input.new }
     {
         parse_type_param(alloc, input)
     }
@@ -1371,7 +1371,7 @@ impl<A: Attributes, E: Value> Parse for ConstParamOf<TypeOf<A, E>, A, E> {
         ensures within { Follows input.old input.new }
         ensures promise { Heads (promises.const_param A.Attributes E.Value) input.old result input.new }
         ensures fronts { Fronted (frontings.const_param A.Attributes E.Value) input.old result input.new }
-        ensures front { Takes (fronts.const_param A.spells E.spells) input.old result input.new }
+        ensures takes { Takes (fronts.const_param A.spells E.spells) input.old result input.new }
     {
         parse_const_param(alloc, input)
     }

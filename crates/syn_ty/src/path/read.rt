@@ -1058,7 +1058,7 @@ impl<A: Attributes, E: Value> ReadArguments for PathArgumentsOf<A, E> {
         ensures parses { Parses (knot.path A.reads E.reads styles.AsWritten) result input.old input.new }
         ensures promise { Heads (promises.path A.Attributes E.Value) input.old result input.new }
         ensures fronts { Fronted (frontings.path A.Attributes E.Value) input.old result input.new }
-        ensures front { Takes (fronts.path A.spells E.spells) input.old result input.new }
+        ensures takes { Takes (fronts.path A.spells E.spells) input.old result input.new }
     {
         parse_path::<A, E>(alloc, input, PathStyle::AsWritten)
     }
@@ -1070,7 +1070,7 @@ impl<A: Attributes, E: Value> ReadArguments for PathArgumentsOf<A, E> {
         ensures parses { Parses (knot.segment A.reads E.reads) result input.old input.new }
         ensures promise { Heads (promises.segment A.Attributes E.Value) input.old result input.new }
         ensures fronts { Fronted (frontings.segment A.Attributes E.Value) input.old result input.new }
-        ensures front { Takes (fronts.segment A.spells E.spells) input.old result input.new }
+        ensures takes { Takes (fronts.segment A.spells E.spells) input.old result input.new }
     {
         parse_segment::<A, E>(alloc, input)
     }
@@ -1100,7 +1100,7 @@ impl<A: Attributes, E: Value> Parse for GenericArgumentOf<A, E> {
         ensures within { Follows input.old input.new }
         ensures promise { Heads (promises.argument A.Attributes E.Value) input.old result input.new }
         ensures fronts { Fronted (frontings.argument A.Attributes E.Value) input.old result input.new }
-        ensures front { Takes (fronts.argument A.spells E.spells) input.old result input.new }
+        ensures takes { Takes (fronts.argument A.spells E.spells) input.old result input.new }
     {
         parse_argument::<A, E>(alloc, input)
     }
@@ -1131,7 +1131,7 @@ impl<A: Attributes, E: Value> Parse for AngleBracketedGenericArgumentsOf<Generic
         ensures within { Follows input.old input.new }
         ensures promise { Heads (promises.angle A.Attributes E.Value) input.old result input.new }
         ensures fronts { Fronted (frontings.angle A.Attributes E.Value) input.old result input.new }
-        ensures front { Takes (fronts.angle A.spells E.spells) input.old result input.new }
+        ensures takes { Takes (fronts.angle A.spells E.spells) input.old result input.new }
     {
         parse_angle_bracketed::<A, E>(alloc, input)
     }
@@ -1153,7 +1153,7 @@ impl<A: Attributes, E: Value> AngleBracketedGenericArgumentsOf<GenericArgumentOf
         ensures parses { Parses (knot.turbofish A.reads E.reads) result input.old input.new }
         ensures promise { Heads (promises.turbofish A.Attributes E.Value) input.old result input.new }
         ensures fronts { Fronted (frontings.turbofish A.Attributes E.Value) input.old result input.new }
-        ensures front { Takes (fronts.turbofish A.spells E.spells) input.old result input.new }
+        ensures takes { Takes (fronts.turbofish A.spells E.spells) input.old result input.new }
     {
         parse_turbofish::<A, E>(alloc, input)
     }
@@ -1184,7 +1184,7 @@ impl<A: Attributes, E: Value> Parse for ParenthesizedGenericArgumentsOf<TypeOf<A
         ensures within { Follows input.old input.new }
         ensures promise { Heads (promises.parenthesized A.Attributes E.Value) input.old result input.new }
         ensures fronts { Fronted (frontings.parenthesized A.Attributes E.Value) input.old result input.new }
-        ensures front { Takes (fronts.parenthesized A.spells E.spells) input.old result input.new }
+        ensures takes { Takes (fronts.parenthesized A.spells E.spells) input.old result input.new }
     {
         parse_parenthesized::<A, E>(alloc, input)
     }

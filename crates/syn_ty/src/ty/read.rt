@@ -55,7 +55,7 @@ impl<A: Attributes, E: Value> TypeOf<A, E> {
         ensures parses { Parses (knot.ty A.reads E.reads NoPlus) result input.old input.new }
         ensures promise { Heads (promises.ty A.Attributes E.Value NoPlus) input.old result input.new }
         ensures fronts { Fronted (frontings.ty A.Attributes E.Value NoPlus) input.old result input.new }
-        ensures front { Takes (fronts.ty A.spells E.spells NoPlus) input.old result input.new }
+        ensures takes { Takes (fronts.ty A.spells E.spells NoPlus) input.old result input.new }
         ensures group { TakesGroup (fronts.grouped A.spells E.spells) input.old result input.new }
         ensures cases { sees_invisible input.old.rest ≡ true → IfOk result
             (λ x. IsReadGrouped (knot.reads_below A.reads E.reads (ahead input.old)) input.old x input.new) }
@@ -83,7 +83,7 @@ impl<A: Attributes, E: Value> Parse for TypeOf<A, E> {
         ensures within { Follows input.old input.new }
         ensures promise { Heads (promises.ty A.Attributes E.Value Plus) input.old result input.new }
         ensures fronts { Fronted (frontings.ty A.Attributes E.Value Plus) input.old result input.new }
-        ensures front { Takes (fronts.ty A.spells E.spells Plus) input.old result input.new }
+        ensures takes { Takes (fronts.ty A.spells E.spells Plus) input.old result input.new }
         ensures group { TakesGroup (fronts.grouped A.spells E.spells) input.old result input.new }
         ensures cases { sees_invisible input.old.rest ≡ true → IfOk result
             (λ x. IsReadGrouped (knot.reads_below A.reads E.reads (ahead input.old)) input.old x input.new) }
@@ -101,7 +101,7 @@ impl<A: Attributes, E: Value> ReturnTypeOf<TypeOf<A, E>> {
         ensures parses { Parses (knot.return_type A.reads E.reads NoPlus) result input.old input.new }
         ensures promise { Heads (promises.return_type A.Attributes E.Value NoPlus) input.old result input.new }
         ensures fronts { Fronted (frontings.return_type A.Attributes E.Value NoPlus) input.old result input.new }
-        ensures front { Takes (fronts.return_type A.spells E.spells NoPlus) input.old result input.new }
+        ensures takes { Takes (fronts.return_type A.spells E.spells NoPlus) input.old result input.new }
     {
         parse_return_type(alloc, input, TypePlace::NoPlus)
     }
@@ -125,7 +125,7 @@ impl<A: Attributes, E: Value> Parse for ReturnTypeOf<TypeOf<A, E>> {
         ensures within { Follows input.old input.new }
         ensures promise { Heads (promises.return_type A.Attributes E.Value Plus) input.old result input.new }
         ensures fronts { Fronted (frontings.return_type A.Attributes E.Value Plus) input.old result input.new }
-        ensures front { Takes (fronts.return_type A.spells E.spells Plus) input.old result input.new }
+        ensures takes { Takes (fronts.return_type A.spells E.spells Plus) input.old result input.new }
     {
         parse_return_type(alloc, input, TypePlace::Plus)
     }
@@ -140,7 +140,7 @@ impl<A: Attributes, E: Value> TypeTraitObjectOf<TypeParamBoundOf<A, E>, A> {
         ensures parses { Parses (knot.trait_object A.reads E.reads false) result input.old input.new }
         ensures promise { Heads (promises.trait_object A.Attributes E.Value NoPlus) input.old result input.new }
         ensures fronts { Fronted (frontings.trait_object A.Attributes E.Value NoPlus) input.old result input.new }
-        ensures front { Takes (fronts.trait_object A.spells E.spells NoPlus) input.old result input.new }
+        ensures takes { Takes (fronts.trait_object A.spells E.spells NoPlus) input.old result input.new }
     {
         parse_trait_object(alloc, input, false)
     }
@@ -164,7 +164,7 @@ impl<A: Attributes, E: Value> Parse for TypeTraitObjectOf<TypeParamBoundOf<A, E>
         ensures within { Follows input.old input.new }
         ensures promise { Heads (promises.trait_object A.Attributes E.Value Plus) input.old result input.new }
         ensures fronts { Fronted (frontings.trait_object A.Attributes E.Value Plus) input.old result input.new }
-        ensures front { Takes (fronts.trait_object A.spells E.spells Plus) input.old result input.new }
+        ensures takes { Takes (fronts.trait_object A.spells E.spells Plus) input.old result input.new }
     {
         parse_trait_object(alloc, input, true)
     }
@@ -179,7 +179,7 @@ impl<A: Attributes, E: Value> TypeImplTraitOf<TypeParamBoundOf<A, E>, A> {
         ensures parses { Parses (knot.impl_trait A.reads E.reads false) result input.old input.new }
         ensures promise { Heads (promises.impl_trait A.Attributes E.Value NoPlus) input.old result input.new }
         ensures fronts { Fronted (frontings.impl_trait A.Attributes E.Value NoPlus) input.old result input.new }
-        ensures front { Takes (fronts.impl_trait A.spells E.spells NoPlus) input.old result input.new }
+        ensures takes { Takes (fronts.impl_trait A.spells E.spells NoPlus) input.old result input.new }
     {
         parse_impl_trait(alloc, input, false)
     }
@@ -203,7 +203,7 @@ impl<A: Attributes, E: Value> Parse for TypeImplTraitOf<TypeParamBoundOf<A, E>, 
         ensures within { Follows input.old input.new }
         ensures promise { Heads (promises.impl_trait A.Attributes E.Value Plus) input.old result input.new }
         ensures fronts { Fronted (frontings.impl_trait A.Attributes E.Value Plus) input.old result input.new }
-        ensures front { Takes (fronts.impl_trait A.spells E.spells Plus) input.old result input.new }
+        ensures takes { Takes (fronts.impl_trait A.spells E.spells Plus) input.old result input.new }
     {
         parse_impl_trait(alloc, input, true)
     }
@@ -227,7 +227,7 @@ impl<A: Attributes, E: Value> Parse for TypeArrayOf<TypeOf<A, E>, A, E> {
         ensures within { Follows input.old input.new }
         ensures promise { Heads (promises.array A.Attributes E.Value) input.old result input.new }
         ensures fronts { Fronted (frontings.array A.Attributes E.Value) input.old result input.new }
-        ensures front { Takes (fronts.array A.spells E.spells) input.old result input.new }
+        ensures takes { Takes (fronts.array A.spells E.spells) input.old result input.new }
     {
         parse_array(alloc, input)
     }
@@ -249,7 +249,7 @@ impl<A: Attributes, E: Value> Parse for TypeFnPtrOf<A, E> {
         ensures within { Follows input.old input.new }
         ensures promise { Heads (promises.fn_ptr A.Attributes E.Value) input.old result input.new }
         ensures fronts { Fronted (frontings.fn_ptr A.Attributes E.Value) input.old result input.new }
-        ensures front { Takes (fronts.fn_ptr A.spells E.spells) input.old result input.new }
+        ensures takes { Takes (fronts.fn_ptr A.spells E.spells) input.old result input.new }
     {
         parse_fn_ptr(alloc, input)
     }
@@ -273,7 +273,7 @@ impl<A: Attributes, E: Value> Parse for TypeGroupOf<TypeOf<A, E>, A> {
         ensures within { Follows input.old input.new }
         ensures promise { Heads (promises.group A.Attributes E.Value) input.old result input.new }
         ensures fronts { Fronted (frontings.group A.Attributes E.Value) input.old result input.new }
-        ensures front { Takes (fronts.group A.spells E.spells) input.old result input.new }
+        ensures takes { Takes (fronts.group A.spells E.spells) input.old result input.new }
     {
         parse_group(alloc, input)
     }
@@ -297,7 +297,7 @@ impl<A: Attributes, E: Value> Parse for TypeParenOf<TypeOf<A, E>, A> {
         ensures within { Follows input.old input.new }
         ensures promise { Heads (promises.paren A.Attributes E.Value) input.old result input.new }
         ensures fronts { Fronted (frontings.paren A.Attributes E.Value) input.old result input.new }
-        ensures front { Takes (fronts.paren A.spells E.spells) input.old result input.new }
+        ensures takes { Takes (fronts.paren A.spells E.spells) input.old result input.new }
     {
         parse_paren(alloc, input)
     }
@@ -318,7 +318,7 @@ impl<A: Attributes, E: Value> Parse for TypePathOf<A, E> {
         ensures within { Follows input.old input.new }
         ensures promise { Heads (promises.path_type A.Attributes E.Value) input.old result input.new }
         ensures fronts { Fronted (frontings.path_type A.Attributes E.Value) input.old result input.new }
-        ensures front { Takes (fronts.path_type A.spells E.spells) input.old result input.new }
+        ensures takes { Takes (fronts.path_type A.spells E.spells) input.old result input.new }
     {
         parse_path_type(alloc, input)
     }
@@ -342,7 +342,7 @@ impl<A: Attributes, E: Value> Parse for TypePtrOf<TypeOf<A, E>, A> {
         ensures within { Follows input.old input.new }
         ensures promise { Heads (promises.ptr A.Attributes E.Value) input.old result input.new }
         ensures fronts { Fronted (frontings.ptr A.Attributes E.Value) input.old result input.new }
-        ensures front { Takes (fronts.ptr A.spells E.spells) input.old result input.new }
+        ensures takes { Takes (fronts.ptr A.spells E.spells) input.old result input.new }
     {
         parse_ptr(alloc, input)
     }
@@ -366,7 +366,7 @@ impl<A: Attributes, E: Value> Parse for TypeReferenceOf<TypeOf<A, E>, A> {
         ensures within { Follows input.old input.new }
         ensures promise { Heads (promises.reference A.Attributes E.Value) input.old result input.new }
         ensures fronts { Fronted (frontings.reference A.Attributes E.Value) input.old result input.new }
-        ensures front { Takes (fronts.reference A.spells E.spells) input.old result input.new }
+        ensures takes { Takes (fronts.reference A.spells E.spells) input.old result input.new }
     {
         parse_reference(alloc, input)
     }
@@ -390,7 +390,7 @@ impl<A: Attributes, E: Value> Parse for TypeSliceOf<TypeOf<A, E>, A> {
         ensures within { Follows input.old input.new }
         ensures promise { Heads (promises.slice A.Attributes E.Value) input.old result input.new }
         ensures fronts { Fronted (frontings.slice A.Attributes E.Value) input.old result input.new }
-        ensures front { Takes (fronts.slice A.spells E.spells) input.old result input.new }
+        ensures takes { Takes (fronts.slice A.spells E.spells) input.old result input.new }
     {
         parse_slice(alloc, input)
     }
@@ -414,7 +414,7 @@ impl<A: Attributes, E: Value> Parse for TypeTupleOf<TypeOf<A, E>, A> {
         ensures within { Follows input.old input.new }
         ensures promise { Heads (promises.tuple A.Attributes E.Value) input.old result input.new }
         ensures fronts { Fronted (frontings.tuple A.Attributes E.Value) input.old result input.new }
-        ensures front { Takes (fronts.tuple A.spells E.spells) input.old result input.new }
+        ensures takes { Takes (fronts.tuple A.spells E.spells) input.old result input.new }
     {
         parse_tuple(alloc, input)
     }
@@ -438,7 +438,7 @@ impl<A: Attributes, E: Value> Parse for NamedArgOf<TypeOf<A, E>, A> {
         ensures within { Follows input.old input.new }
         ensures promise { Heads (promises.named_arg A.Attributes E.Value) input.old result input.new }
         ensures fronts { Fronted (frontings.named_arg A.Attributes E.Value) input.old result input.new }
-        ensures front { Takes (fronts.named_arg A.spells E.spells) input.old result input.new }
+        ensures takes { Takes (fronts.named_arg A.spells E.spells) input.old result input.new }
     {
         parse_named_arg(alloc, input)
     }
@@ -457,7 +457,7 @@ impl<A: Attributes> Parse for TypeNeverOf<A> {
     fn parse(alloc: Global, input: &mut ParseStream<'_>) -> Result<TypeNeverOf<A>, Error>
         ensures reads { Reads (reading.never input.old) result input.new }
         ensures within { Follows input.old input.new }
-        ensures front { Visible input.old.rest → IfOk result (λ x. IsNever false x input.old.rest input.new.rest) }
+        ensures takes { Visible input.old.rest → IfOk result (λ x. IsNever false x input.old.rest input.new.rest) }
         ensures promise { Heads (grammars.never A.normal) input.old result input.new }
         ensures fronts { Fronted (grammars.never_front A.normal) input.old result input.new }
     {
@@ -478,7 +478,7 @@ impl<A: Attributes> Parse for TypeInferOf<A> {
     fn parse(alloc: Global, input: &mut ParseStream<'_>) -> Result<TypeInferOf<A>, Error>
         ensures reads { Reads (reading.infer input.old) result input.new }
         ensures within { Follows input.old input.new }
-        ensures front { Visible input.old.rest → IfOk result (λ x. IsInfer x input.old.rest input.new.rest) }
+        ensures takes { Visible input.old.rest → IfOk result (λ x. IsInfer x input.old.rest input.new.rest) }
         ensures promise { Heads (grammars.infer A.normal) input.old result input.new }
         ensures fronts { Fronted (grammars.infer_front A.normal) input.old result input.new }
     {
@@ -499,7 +499,7 @@ impl<A: Attributes> Parse for TypeMacroOf<A> {
     fn parse(alloc: Global, input: &mut ParseStream<'_>) -> Result<TypeMacroOf<A>, Error>
         ensures reads { Reads (reading.macro_type input.old) result input.new }
         ensures within { Follows input.old input.new }
-        ensures front { Visible input.old.rest → IfOk result (λ x. IsMacroType false x input.old.rest input.new.rest) }
+        ensures takes { Visible input.old.rest → IfOk result (λ x. IsMacroType false x input.old.rest input.new.rest) }
         ensures promise { Heads (grammars.macro_type A.normal) input.old result input.new }
         ensures fronts { Fronted (grammars.macro_type_front A.normal) input.old result input.new }
     {
@@ -522,7 +522,7 @@ impl Parse for Abi {
         ensures within { Follows input.old input.new }
         ensures promise { Heads promises.abi input.old result input.new }
         ensures fronts { Fronted frontings.abi input.old result input.new }
-        ensures front { Takes IsAbi input.old result input.new }
+        ensures takes { Takes IsAbi input.old result input.new }
     {
         parse_abi(alloc, input)
     }
@@ -534,7 +534,7 @@ impl Abi {
         ensures parses { Parses reading.optional_abi result input.old input.new }
         ensures promise { Heads promises.optional_abi input.old result input.new }
         ensures fronts { Fronted frontings.optional_abi input.old result input.new }
-        ensures front { Takes (IsOptional IsAbi) input.old result input.new }
+        ensures takes { Takes (IsOptional IsAbi) input.old result input.new }
     {
         parse_optional_abi(alloc, input)
     }

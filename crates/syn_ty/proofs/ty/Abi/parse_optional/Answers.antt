@@ -14,5 +14,5 @@ returns-clause-promise c = heads promises.optional_abi optional_abi_lawful _ _ _
 pub returns-clause-fronts : goal.returns-clause-fronts
 returns-clause-fronts c = fronted frontings.optional_abi optional_abi_fronts _ _ _ c.parse_optional_abi.ensures.parses.0
 
-pub returns-clause-front : goal.returns-clause-front
-returns-clause-front c = takes optional_abi_took _ _ _ c.parse_optional_abi.ensures.parses.0
+pub returns-clause-takes : goal.returns-clause-takes
+returns-clause-takes c = takes optional_abi_took _ _ _ c.parse_optional_abi.ensures.parses.0

@@ -15,8 +15,8 @@ returns-clause-promise g c = heads (promises.where_clause g.A.Attributes g.E.Val
 pub returns-clause-fronts : goal.returns-clause-fronts
 returns-clause-fronts g c = fronted (promises.where_clause_front g.A.Attributes g.E.Value) (where_clause_fronts g.A.Attributes g.E.Value (given g.met.A.Attributes.told g.met.E.Value.consts g.met.E.Value.lengths) (given_meets g.met.A.Attributes.met g.met.E.Value.met g.met.E.Value.lengths) (given_again g.met.A.Attributes.met g.met.E.Value.met g.met.E.Value.lengths g.met.A.Attributes.bare)) _ _ _ c.parse_where_clause.ensures.parses.0
 
-pub returns-clause-front : goal.returns-clause-front
-returns-clause-front g c = takes (where_clause_took (given g.met.A.Attributes.told g.met.E.Value.consts g.met.E.Value.lengths)) _ _ _ c.parse_where_clause.ensures.parses.0
+pub returns-clause-takes : goal.returns-clause-takes
+returns-clause-takes g c = takes (where_clause_took (given g.met.A.Attributes.told g.met.E.Value.consts g.met.E.Value.lengths)) _ _ _ c.parse_where_clause.ensures.parses.0
 
 pub returns-clause-printed : goal.returns-clause-printed
 returns-clause-printed g c =

@@ -15,5 +15,5 @@ returns-clause-promise g c = heads (promises.pat g.X.Subtree Multi) (pat_lawful 
 pub returns-clause-fronts : goal.returns-clause-fronts
 returns-clause-fronts g c = fronted (promises.pat_front g.X.Subtree Multi) (pat_fronts g.X.Subtree g.met.X.Subtree.steady g.met.X.Subtree.sound g.met.X.Subtree.complete g.met.X.Subtree.reprint g.met.X.Subtree.apart Multi) _ _ _ c.parse_in.ensures.parses.0
 
-pub returns-clause-front : goal.returns-clause-front
-returns-clause-front g c = takes (pat_took g.X.Subtree.reads g.X.Subtree.spells (supplied g.X.Subtree.reads g.X.Subtree.spells g.X.Subtree.normal g.X.Subtree.prints g.met.X.Subtree.steady g.met.X.Subtree.sound g.met.X.Subtree.complete g.met.X.Subtree.reprint) Multi) _ _ _ c.parse_in.ensures.parses.0
+pub returns-clause-takes : goal.returns-clause-takes
+returns-clause-takes g c = takes (pat_took g.X.Subtree.reads g.X.Subtree.spells (supplied g.X.Subtree.reads g.X.Subtree.spells g.X.Subtree.normal g.X.Subtree.prints g.met.X.Subtree.steady g.met.X.Subtree.sound g.met.X.Subtree.complete g.met.X.Subtree.reprint) Multi) _ _ _ c.parse_in.ensures.parses.0

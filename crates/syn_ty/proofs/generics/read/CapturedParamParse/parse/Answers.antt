@@ -14,5 +14,5 @@ returns-clause-promise c = heads promises.captured captured_lawful _ _ _ c.parse
 pub returns-clause-fronts : goal.returns-clause-fronts
 returns-clause-fronts c = fronted frontings.captured captured_fronts _ _ _ c.parse_captured.ensures.parses.0
 
-pub returns-clause-front : goal.returns-clause-front
-returns-clause-front c = takes captured_took _ _ _ c.parse_captured.ensures.parses.0
+pub returns-clause-takes : goal.returns-clause-takes
+returns-clause-takes c = takes captured_took _ _ _ c.parse_captured.ensures.parses.0

@@ -14,5 +14,5 @@ returns-clause-promise g c = heads (promises.lifetime_param g.A.Attributes) (lif
 pub returns-clause-fronts : goal.returns-clause-fronts
 returns-clause-fronts g c = fronted (frontings.lifetime_param g.A.Attributes) (lifetime_param_fronts g.A.Attributes g.met.A.Attributes.told (attributes_met g.met.A.Attributes.met) (attributes_again g.met.A.Attributes.met)) _ _ _ c.lifetime_param.ensures.parses.0
 
-pub returns-clause-front : goal.returns-clause-front
-returns-clause-front g c = takes (lifetime_param_took g.met.A.Attributes.told) _ _ _ c.lifetime_param.ensures.parses.0
+pub returns-clause-takes : goal.returns-clause-takes
+returns-clause-takes g c = takes (lifetime_param_took g.met.A.Attributes.told) _ _ _ c.lifetime_param.ensures.parses.0

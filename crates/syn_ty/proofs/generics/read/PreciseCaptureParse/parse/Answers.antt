@@ -14,5 +14,5 @@ returns-clause-promise c = heads promises.capture capture_lawful _ _ _ c.parse_c
 pub returns-clause-fronts : goal.returns-clause-fronts
 returns-clause-fronts c = fronted frontings.capture capture_fronts _ _ _ c.parse_capture.ensures.parses.0
 
-pub returns-clause-front : goal.returns-clause-front
-returns-clause-front c = takes capture_took _ _ _ c.parse_capture.ensures.parses.0
+pub returns-clause-takes : goal.returns-clause-takes
+returns-clause-takes c = takes capture_took _ _ _ c.parse_capture.ensures.parses.0

@@ -16,5 +16,5 @@ returns-clause-promise g c = heads (promises.trait_bound g.A.Attributes g.E.Valu
 pub returns-clause-fronts : goal.returns-clause-fronts
 returns-clause-fronts g c = fronted (frontings.trait_bound g.A.Attributes g.E.Value) (trait_bound_fronts g.A.Attributes g.E.Value (given g.met.A.Attributes.told g.met.E.Value.consts g.met.E.Value.lengths) (given_meets g.met.A.Attributes.met g.met.E.Value.met g.met.E.Value.lengths) (given_again g.met.A.Attributes.met g.met.E.Value.met g.met.E.Value.lengths g.met.A.Attributes.bare)) _ _ _ c.parse_trait_bound.ensures.parses.0
 
-pub returns-clause-front : goal.returns-clause-front
-returns-clause-front g c = takes (trait_bound_took (given g.met.A.Attributes.told g.met.E.Value.consts g.met.E.Value.lengths)) _ _ _ c.parse_trait_bound.ensures.parses.0
+pub returns-clause-takes : goal.returns-clause-takes
+returns-clause-takes g c = takes (trait_bound_took (given g.met.A.Attributes.told g.met.E.Value.consts g.met.E.Value.lengths)) _ _ _ c.parse_trait_bound.ensures.parses.0

@@ -14,5 +14,5 @@ returns-clause-promise c = heads promises.abi abi_lawful _ _ _ c.parse_abi.ensur
 pub returns-clause-fronts : goal.returns-clause-fronts
 returns-clause-fronts c = fronted frontings.abi abi_fronts _ _ _ c.parse_abi.ensures.parses.0
 
-pub returns-clause-front : goal.returns-clause-front
-returns-clause-front c = takes abi_took _ _ _ c.parse_abi.ensures.parses.0
+pub returns-clause-takes : goal.returns-clause-takes
+returns-clause-takes c = takes abi_took _ _ _ c.parse_abi.ensures.parses.0

@@ -10,5 +10,5 @@ returns-clause-promise g c = heads (grammars.infer g.A.Attributes.normal) (infer
 pub returns-clause-fronts : goal.returns-clause-fronts
 returns-clause-fronts g c = fronted (grammars.infer_front g.A.Attributes.normal) (infer_fronts g.A.Attributes.normal g.met.A.Attributes.bare.stays) _ _ _ c.parse_infer.ensures.parses.0
 
-pub returns-clause-front : goal.returns-clause-front
-returns-clause-front g c = infer_front _ _ _ c.parse_infer.ensures.parses.0
+pub returns-clause-takes : goal.returns-clause-takes
+returns-clause-takes g c = infer_front _ _ _ c.parse_infer.ensures.parses.0

@@ -10,5 +10,5 @@ returns-clause-promise g c = heads (grammars.never g.A.Attributes.normal) (never
 pub returns-clause-fronts : goal.returns-clause-fronts
 returns-clause-fronts g c = fronted (grammars.never_front g.A.Attributes.normal) (never_fronts g.A.Attributes.normal g.met.A.Attributes.bare.stays) _ _ _ c.parse_never.ensures.parses.0
 
-pub returns-clause-front : goal.returns-clause-front
-returns-clause-front g c = never_front _ _ _ c.parse_never.ensures.parses.0
+pub returns-clause-takes : goal.returns-clause-takes
+returns-clause-takes g c = never_front _ _ _ c.parse_never.ensures.parses.0
