@@ -7,6 +7,7 @@ use Rattle.std.specs.Char.{len_utf8}
 use Rattle.std.specs.Fmt.{decimal}
 use Rattle.token_core.specs.Toks.{Bytes}
 use Rattle.token_core.specs.declared.error.ErrorKind.{ErrorKind}
+use Rattle.token_text.specs.declared.piece.Docs.TheVariants.{Refuse}
 use Rattle.token_text.specs.declared.piece.Piece.{Piece}
 use Rattle.token_text.specs.Characters.{Text, size, upto}
 use Rattle.token_text.specs.Front.{Past, found, found_in, look, front}
@@ -97,7 +98,7 @@ feeds_same cs ds c n m h e other =
 
 -- ---- the end of the input
 
-past_turn : (last cs y : Text) (c n : ℕ) → past_piece last cs (front (c ∷ cs)) ≡ (n, y) → past_pieces 0 last (c ∷ cs) ≡ past_pieces n y cs
+past_turn : (last cs y : Text) (c n : ℕ) → past_piece last cs (front Refuse (c ∷ cs)) ≡ (n, y) → past_pieces 0 last (c ∷ cs) ≡ past_pieces n y cs
 unfolding past_pieces
 past_turn last cs y c n h = rw (h, past_pieces) refl
 
@@ -111,41 +112,41 @@ pub past_end : (last cs : Text) → cs ≡ [] → past_pieces 0 last cs ≡ last
 unfolding past_pieces
 past_end last cs e = rw e refl
 
-past_front : (p : Piece) (cs w rest last : Text) → front cs ≡ Ok (found p w rest) → past_pieces 0 last cs ≡ past_pieces 0 (cond (is_token p) rest last) rest
-past_front p cs [] rest last h = let s = front_splits cs (found p [] rest) h in absurd (omega (arith, s.some))
-past_front p [] (c ∷ w) rest last h = let s = front_splits [] (found p (c ∷ w) rest) h in let e = s.whole in cc
+past_front : (p : Piece) (cs w rest last : Text) → front Refuse cs ≡ Ok (found p w rest) → past_pieces 0 last cs ≡ past_pieces 0 (cond (is_token p) rest last) rest
+past_front p cs [] rest last h = let s = front_splits Refuse cs (found p [] rest) h in absurd (omega (arith, s.some))
+past_front p [] (c ∷ w) rest last h = let s = front_splits Refuse [] (found p (c ∷ w) rest) h in let e = s.whole in cc
 past_front p (d ∷ cs) (c ∷ w) rest last h =
-    let s = front_splits (d ∷ cs) (found p (c ∷ w) rest) h in
+    let s = front_splits Refuse (d ∷ cs) (found p (c ∷ w) rest) h in
     let whole = s.whole in
     let tail : cs ≡ w ++ rest = cc in
     let n : suc (length w) - 1 ≡ length w = omega arith in
     let next = cond (is_token p) rest last in
-    let t : past_piece last cs (front (d ∷ cs)) ≡ (length w, next) = rw h (ap (λ m. (m, next)) n) in
+    let t : past_piece last cs (front Refuse (d ∷ cs)) ≡ (length w, next) = rw h (ap (λ m. (m, next)) n) in
     past_turn last cs next d (length w) t ∙ past_left (length w) next cs
     ∙ ap (λ r. past_pieces 0 next r) (ap (drop (length w)) tail ∙ drop_at w rest (length w) refl)
 
-front_looked : (cs ds : Text) (p : Piece) → look cs ≡ Ok (p, ds) → front cs ≡ Ok (found p (upto cs ds) ds)
+front_looked : (cs ds : Text) (p : Piece) → look Refuse cs ≡ Ok (p, ds) → front Refuse cs ≡ Ok (found p (upto cs ds) ds)
 unfolding front
 front_looked cs ds p h = ap (found_in cs) h
 
 -- a piece is passed over
-pub past_goes : (cs rest last : Text) (p : Piece) → look cs ≡ Ok (p, rest) → past_pieces 0 last cs ≡ past_pieces 0 (cond (is_token p) rest last) rest
+pub past_goes : (cs rest last : Text) (p : Piece) → look Refuse cs ≡ Ok (p, rest) → past_pieces 0 last cs ≡ past_pieces 0 (cond (is_token p) rest last) rest
 past_goes cs rest last p h = past_front p cs (upto cs rest) rest last (front_looked cs rest p h)
 
 -- where none begins, the line is
-pub past_stuck : (cs ds last : Text) (c : ℕ) (k : ErrorKind) → cs ≡ c ∷ ds → look cs ≡ Err k → past_pieces 0 last cs ≡ past_pieces 0 (line_end ds) (line_end ds)
+pub past_stuck : (cs ds last : Text) (c : ℕ) (k : ErrorKind) → cs ≡ c ∷ ds → look Refuse cs ≡ Err k → past_pieces 0 last cs ≡ past_pieces 0 (line_end ds) (line_end ds)
 past_stuck cs ds last c k e h =
-    let none : front (c ∷ ds) ≡ Err k = front_refused (c ∷ ds) k (ap look (sym e) ∙ h) in
-    let t : past_piece last ds (front (c ∷ ds)) ≡ (length (first_line ds), line_end ds) = rw none refl in
+    let none : front Refuse (c ∷ ds) ≡ Err k = front_refused Refuse (c ∷ ds) k (ap (look Refuse) (sym e) ∙ h) in
+    let t : past_piece last ds (front Refuse (c ∷ ds)) ≡ (length (first_line ds), line_end ds) = rw none refl in
     ap (past_pieces 0 last) e ∙ past_turn last ds (line_end ds) c (length (first_line ds)) t ∙ past_left (length (first_line ds)) (line_end ds) ds
     ∙ ap (λ r. past_pieces 0 (line_end ds) r)
     (ap (drop (length (first_line ds))) (sym (first_line_whole ds)) ∙ drop_at (first_line ds) (line_end ds) (length (first_line ds)) refl)
 
 -- a piece has a character
-pub look_less : (text rest : Bytes) (p : Piece) → look (chars text) ≡ Ok (p, chars rest) → Past text rest → length rest < length text
+pub look_less : (text rest : Bytes) (p : Piece) → look Refuse (chars text) ≡ Ok (p, chars rest) → Past text rest → length rest < length text
 look_less text rest p h past =
     let w = upto (chars text) (chars rest) in
-    let s = front_splits (chars text) (found p w (chars rest)) (front_looked (chars text) (chars rest) p h) in
+    let s = front_splits Refuse (chars text) (found p w (chars rest)) (front_looked (chars text) (chars rest) p h) in
     let e : text ≡ encode_utf8_all w ++ rest = past.split ∙ ap (λ t. t ++ rest) (sym (spelled_so text (encode_utf8_all past.front) rest past past.split)) in
     omega (arith, ap length e, length-append (encode_utf8_all w) rest, s.some, length-le-encodes w)
 

@@ -8,7 +8,8 @@ use Rattle.token_core.specs.declared.error.ErrorKind.{ErrorKind}
 use Rattle.token_core.specs.declared.error.ErrorKind.TheVariants.{OutOfMemory}
 use Rattle.token_core.specs.Toks.{Bytes}
 use Rattle.token_core.specs.Refusal.{Refusal}
-use Rattle.token_text.specs.declared.piece.Leaf.TheVariants.{Blank, Word, Lifetime, Literal, Mark}
+use Rattle.token_text.specs.declared.piece.Docs.TheVariants.{Refuse}
+use Rattle.token_text.specs.declared.piece.Leaf.TheVariants.{Blank, Doc, Word, Lifetime, Literal, Mark}
 use Rattle.token_text.specs.declared.piece.Piece.{Piece}
 use Rattle.token_text.specs.declared.piece.Piece.TheVariants.{Leaf, Open, Close}
 use Rattle.token_text.specs.Characters.{Text, size, begins_with}
@@ -60,6 +61,7 @@ line_feeds (c ∷ cs) = (if c == 10 then 1 else 0) + line_feeds cs
 -- a piece that is neither a blank nor a comment
 abbrev pub is_token : Piece → Bool
 is_token (Leaf Blank) = false
+is_token (Leaf (Doc s f)) = true
 is_token (Leaf Word) = true
 is_token (Leaf Lifetime) = true
 is_token (Leaf (Literal k)) = true
@@ -77,7 +79,7 @@ past_piece last cs (Err k) = (length (first_line cs), line_end cs)
 unfoldable pub past_pieces : ℕ → Text → Text → Text
 past_pieces left last [] = last
 past_pieces (suc left) last (c ∷ cs) = past_pieces left last cs
-past_pieces zero last (c ∷ cs) = past_pieces (past_piece last cs (front (c ∷ cs))).0 (past_piece last cs (front (c ∷ cs))).1 cs
+past_pieces zero last (c ∷ cs) = past_pieces (past_piece last cs (front Refuse (c ∷ cs))).0 (past_piece last cs (front Refuse (c ∷ cs))).1 cs
 
 -- what follows the last token of a text: blanks and comments
 abbrev pub after_tokens : Text → Text

@@ -6,7 +6,7 @@ ghost use Rattle.token_text.specs.Front.{Past};
 ghost use Rattle.token_text.specs.Note as spec;
 
 use crate::front::front;
-use crate::piece::{Leaf, Piece};
+use crate::piece::{Docs, Leaf, Piece};
 use crate::word::{begins, split_first, up_to};
 use std::alloc::{AllocError, Global};
 use token_core::{Error, ErrorKind};
@@ -174,7 +174,7 @@ fn after_tokens(text: &str) -> &str
     let mut last = text;
     let mut rest = text;
     while let Some((_, next)) = split_first(rest) {
-        match front(rest) {
+        match front(rest, Docs::Refuse) {
             Ok((piece, after)) => {
                 last = if is_token(piece) { after } else { last };
                 rest = after;
