@@ -200,7 +200,7 @@ fn is_token(piece: Piece) -> bool
 
 /// The characters that end within the first bytes, and what follows them.
 fn cut(text: &str, count: usize) -> (&str, &str)
-    ensures takes { chars result.0.now ≡ spec.within count (chars text.now) }
+    ensures front { chars result.0.now ≡ spec.within count (chars text.now) }
     ensures rest { chars result.1.now ≡ spec.beyond count (chars text.now) }
     ensures size { length result.0.now ≡ size (spec.within count (chars text.now)) }
 {

@@ -25,7 +25,7 @@ returns c =
     let line = c.first_line-following.result.now in
     let is_line : chars line ≡ spec.first_line rest = c.first_line-following.ensures ∙ ap spec.first_line is_rest in
     let inside : chars c.cut-2.result.0.now ≡ spec.within (p.1 - size head) (spec.first_line rest) =
-    c.cut-2.ensures.takes ∙ ap (λ k. spec.within k (chars line)) left ∙ ap (spec.within (p.1 - size head)) is_line in
+    c.cut-2.ensures.front ∙ ap (λ k. spec.within k (chars line)) left ∙ ap (spec.within (p.1 - size head)) is_line in
     let before = string_bytes c.in_ok-before.before in
     let after = string_bytes c.in_ok-after.after in
     let b = string_bytes c.in_ok-blanks.blanks in
