@@ -81,7 +81,12 @@ fn has_lone_return(text: &str) -> bool
 /// A comment of documentation up to `rest`, of which `text` follows the first two characters; `until` ends that in which carriage
 /// returns are looked for.
 #[tactic(auto, using(crate::proofs::Pasts::pasts))]
-fn doc<'a>(form: Form, text: &'a str, rest: &'a str, until: &str) -> Result<(Piece, &'a str), ErrorKind>
+fn doc<'a>(
+    form: Form,
+    text: &'a str,
+    rest: &'a str,
+    until: &str,
+) -> Result<(Piece, &'a str), ErrorKind>
     requires { spec.Past text.now rest.now × spec.Past text.now until.now }
     ensures { spec.Tells (spec.doc_in form (chars text.now) (chars rest.now)
         (upto (chars text.now) (chars until.now))) text.now result }

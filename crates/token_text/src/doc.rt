@@ -7,7 +7,9 @@ ghost use Rattle.token_text.specs.Pieces as spec;
 use crate::piece::Form;
 use crate::word;
 use std::alloc::{AllocError, Global};
-use token_core::{DelimSpan, Delimiter, Group, Ident, Items, LitKind, Literal, Punct, Spacing, Span, TokenTree};
+use token_core::{
+    DelimSpan, Delimiter, Group, Ident, Items, LitKind, Literal, Punct, Spacing, Span, TokenTree,
+};
 
 /// Whether this character stands here, and nothing more.
 #[tactic(auto, unfolding(crate::specs::Pieces::is_last))]
@@ -90,5 +92,10 @@ pub fn group(alloc: Global, form: Form, comment: &str, span: Span) -> Result<Gro
     content.push(TokenTree::Ident(Ident::new(alloc, "doc", span)?))?;
     content.push(TokenTree::Punct(Punct::new('=', Spacing::Alone, span)))?;
     content.push(TokenTree::Literal(Literal::new(alloc, LitKind::Str, text.as_str(), span)?))?;
-    Group::shared(alloc, Delimiter::Bracket, content, DelimSpan::new(span, span))
+    Group::shared(
+        alloc,
+        Delimiter::Bracket,
+        content,
+        DelimSpan::new(span, span),
+    )
 }

@@ -115,7 +115,13 @@ impl State {
     }
 
     /// The attribute of a comment of documentation.
-    fn push_doc(&mut self, style: Style, form: Form, text: &str, span: Span) -> Result<(), AllocError>
+    fn push_doc(
+        &mut self,
+        style: Style,
+        form: Form,
+        text: &str,
+        span: Span,
+    ) -> Result<(), AllocError>
         ensures { IfOk result (λ _. spec.act span text.now (spec.leaf_piece (doc_leaf style form)) (spec.state_of self.old)
             ≡ Ok (spec.state_of self.new)) }
     {
