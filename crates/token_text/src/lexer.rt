@@ -1,10 +1,16 @@
 //! Text to tokens.
 
-ghost use Rattle.std.specs.Prelude.{◌≡◌, ◌⊎◌, List, IfOk, IfErr, MatchResult};
+ghost use Rattle.std.specs.Prelude.{◌≡◌, ◌⊎◌, List, IfOk, IfErr, IsUtf8, MatchResult, chars, encode_utf8_all};
+ghost use Rattle.token_core.specs.declared.span.Span.{Span};
 ghost use Rattle.token_core.specs.declared.tree.TokenTree.{TokenTree};
+ghost use Rattle.token_core.specs.Lits.{lit_str};
 ghost use Rattle.token_core.specs.Refusal.{Refusal, out_of_memory};
+ghost use Rattle.token_core.specs.Toks.{Bytes};
 ghost use Rattle.token_core.specs.Trees.{trees};
+ghost use Rattle.token_text.specs.declared.piece.Form.{Form};
+ghost use Rattle.token_text.specs.Pieces.{doc_literal, doc_text};
 ghost use Rattle.token_text.specs.Reading as spec;
+ghost use Rattle.token_text.specs.Strings.{HasValue};
 ghost use Rattle.token_text.specs.Spelling.{Spells, SpellsDocumented, SpellsWith, Refused, RefusedDocumented, RefusedWith};
 
 use crate::front::front;
@@ -73,6 +79,9 @@ pub fn lex_documented(alloc: Global, text: &str) -> Result<TokenStream, Error>
     ensures refuses { (e : Refusal) → RefusedDocumented text.now e →
         MatchResult result (λ _. ⊥) (λ r. (r ≡ e) ⊎ (r ≡ out_of_memory)) }
     ensures exact { spec.Gives trees result (spec.lexed_documented text.now) }
+    // The literal of such a comment, whose bytes these are, holds what the comment says.
+    ensures says { (f : Form) (b : Bytes) (s : Span) → IsUtf8 b →
+        HasValue (lit_str (doc_literal f b) s) (encode_utf8_all (doc_text f (chars b))) }
 {
     lex_with(alloc, text, Docs::Read)
 }
