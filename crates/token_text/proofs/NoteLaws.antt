@@ -1,5 +1,5 @@
 -- Laws of the parts of a note.
-use Rattle.std.proofs.Common.{◌≡◌, ℕ, zero, suc, ◌+◌, ◌-◌, ◌<◌, ◌≤◌, Bool, true, false, cond, ◌==◌, nat_lt, List, [], ◌∷◌, ◌++◌, length, drop, replicate, reverse, chars, encode_utf8_all, IsUtf8, codes, Ok, Err, refl, sym, ap, ◌∙◌, arith, append_assoc, append-nil, length-append, drop_at}
+use Rattle.std.proofs.Common.{◌≡◌, ℕ, zero, suc, ◌+◌, ◌-◌, ◌<◌, ◌≤◌, Bool, true, false, cond, ◌==◌, nat_lt, [], ◌∷◌, ◌++◌, length, drop, replicate, reverse, chars, encode_utf8_all, IsUtf8, codes, Ok, Err, refl, sym, ap, ◌∙◌, arith, append_assoc, append-nil, length-append, drop_at}
 use Rattle.std.proofs.lemmas.List.{append_cancel_right, reverse-append, length-replicate}
 use Rattle.std.proofs.lemmas.Str.{encodes_same, encodes-chars, length-le-encodes}
 use Rattle.std.proofs.lemmas.Bool.{eq-eqb, ne_eqb, lt-ltb, le-ltb}

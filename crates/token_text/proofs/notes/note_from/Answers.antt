@@ -1,6 +1,5 @@
 use Rattle.std.proofs.Common.{◌≡◌, ◌+◌, ◌-◌, ◌++◌, length, chars, codes, string_bytes, refl, ap, ◌∙◌}
 use Rattle.std.proofs.lemmas.Result.{IfOk-weaker}
-use Rattle.std.specs.Fmt.{decimal}
 use Rattle.token_text.specs.Characters.{size}
 use Rattle.token_text.specs.Note as spec
 use Rattle.token_text.proofs.NoteLaws.{length-drawn, noted}
