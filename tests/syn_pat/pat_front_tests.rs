@@ -74,7 +74,8 @@ fn leaves_a_vert_or_takes_it(rt: HostRuntime) {
 fn refuses_an_open_range_before_in(rt: HostRuntime) {
     let alloc = rt.alloc();
     let refused = read_and_left(alloc, "1.. in x", single);
-    says(&rt, alloc, refused, "expected identifier, found keyword `in` 4-6 4-6");
+    let wanted = "expected one of: literal, identifier, `::`, `<`, `self`, `Self`, `super`, `crate`, `const` 4-6 4-6";
+    says(&rt, alloc, refused, wanted);
 }
 
 /// A pattern and its type, as in an argument.
