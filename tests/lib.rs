@@ -5,6 +5,8 @@
 #[cfg(test)]
 mod argument_tests;
 #[cfg(test)]
+mod attr_front_tests;
+#[cfg(test)]
 mod attr_tests;
 #[cfg(test)]
 mod attr_text_tests;
@@ -25,6 +27,8 @@ mod derive_head;
 #[cfg(test)]
 mod derive_head_tests;
 #[cfg(test)]
+mod doc_tests;
+#[cfg(test)]
 mod expr_tests;
 #[cfg(test)]
 mod fn_ptr_tests;
@@ -32,6 +36,8 @@ mod fn_ptr_tests;
 mod generics_tests;
 #[cfg(test)]
 mod group_tests;
+#[cfg(test)]
+mod left;
 #[cfg(test)]
 mod lexer_tests;
 #[cfg(test)]
@@ -51,6 +57,8 @@ mod mod_path_tests;
 #[cfg(test)]
 mod nested_tests;
 #[cfg(test)]
+mod nesting_tests;
+#[cfg(test)]
 mod note_tests;
 #[cfg(test)]
 mod nothing;
@@ -61,9 +69,15 @@ mod options;
 #[cfg(test)]
 mod options_tests;
 #[cfg(test)]
+mod pat_front_tests;
+#[cfg(test)]
 mod pat_tests;
 #[cfg(test)]
+mod path_front_tests;
+#[cfg(test)]
 mod path_tests;
+#[cfg(test)]
+mod plain_front_tests;
 #[cfg(test)]
 mod plain_type_tests;
 #[cfg(test)]
@@ -88,6 +102,8 @@ mod text_tests;
 mod token_tests;
 #[cfg(test)]
 mod type_attr_tests;
+#[cfg(test)]
+mod type_front_tests;
 #[cfg(test)]
 mod type_tests;
 #[cfg(test)]

@@ -4,10 +4,10 @@ use crate::core_tests::{buffer_of, is, tokens};
 use std::alloc::Global;
 use std::process::Abort;
 use token_core::token::{
-    And, As, At, Box, Colon, Comma, Const, Crate, DotDot, DotDotDot, DotDotEq, Dyn, Eq, EqEq,
-    Extern, FatArrow, Fn, For, Gt, If, Impl, Le, Lt, Minus, Mut, Ne, Not, Or, OrEq, OrOr, PathSep,
-    Plus, Pound, Question, RArrow, Ref, SelfType, SelfValue, Semi, ShlEq, Star, Super, Try,
-    Underscore, Unsafe, Use, Where,
+    And, As, Async, At, Box, Colon, Comma, Const, Crate, DotDot, DotDotDot, DotDotEq, Dyn, Enum,
+    Eq, EqEq, Extern, FatArrow, Fn, For, Gt, If, Impl, In, Le, Lt, Minus, Mut, Ne, Not, Or, OrEq,
+    OrOr, PathSep, Plus, Pound, Pub, Question, RArrow, Ref, SelfType, SelfValue, Semi, ShlEq, Star,
+    Struct, Super, Try, Underscore, Union, Unsafe, Use, Where,
 };
 use token_core::{Ident, ParseStream, Span, Token, Word};
 
@@ -33,6 +33,16 @@ fn seen_words(rt: &impl Abort, alloc: Global, text: &str) -> u32 {
         .saturating_add(u32::from(input.peek::<Use>()))
         .saturating_add(u32::from(input.peek::<Where>()))
         .saturating_add(u32::from(input.peek::<Underscore>()))
+        .saturating_add(seen_item_words(&input))
+}
+
+fn seen_item_words(input: &ParseStream<'_>) -> u32 {
+    u32::from(input.peek::<Async>())
+        .saturating_add(u32::from(input.peek::<Enum>()))
+        .saturating_add(u32::from(input.peek::<In>()))
+        .saturating_add(u32::from(input.peek::<Pub>()))
+        .saturating_add(u32::from(input.peek::<Struct>()))
+        .saturating_add(u32::from(input.peek::<Union>()))
 }
 
 fn seen_first_words(input: &ParseStream<'_>) -> u32 {
@@ -90,12 +100,33 @@ fn each_other_word_has_a_class_of_its_own(rt: HostRuntime) {
     word::<19>(&rt, alloc, "_", "r#_", "_s");
 }
 
+#[test]
+fn each_word_of_items_has_a_class_of_its_own(rt: HostRuntime) {
+    let alloc = rt.alloc();
+    word::<21>(&rt, alloc, "async", "r#async", "asyncs");
+    word::<28>(&rt, alloc, "enum", "r#enum", "enums");
+    word::<31>(&rt, alloc, "in", "r#in", "ins");
+    word::<40>(&rt, alloc, "pub", "r#pub", "pubs");
+    word::<43>(&rt, alloc, "struct", "r#struct", "structs");
+}
+
+#[test]
+fn union_is_a_word_and_an_identifier(rt: HostRuntime) {
+    let alloc = rt.alloc();
+    is(&rt, sees::<Union>(&rt, alloc, "union"), "a union");
+    is(&rt, sees::<Ident>(&rt, alloc, "union"), "an identifier");
+    is(&rt, seen_words(&rt, alloc, "union") == 1, "one word");
+    is(&rt, !sees::<Union>(&rt, alloc, "r#union"), "raw");
+    is(&rt, !sees::<Union>(&rt, alloc, "unions"), "longer");
+    is(&rt, !sees::<Union>(&rt, alloc, "unsized"), "another");
+    is(&rt, sees::<Union>(&rt, alloc, "^ union $"), "in a group");
+}
+
 /// The keywords that are no named words, and `builtin`.
-static OTHERS: [&str; 33] = [
-    "abstract", "async", "await", "become", "break", "continue", "do", "else", "enum", "false",
-    "final", "in", "let", "loop", "macro", "match", "mod", "move", "override", "priv", "pub",
-    "return", "static", "struct", "trait", "true", "type", "typeof", "unsized", "virtual", "while",
-    "yield", "builtin",
+static OTHERS: [&str; 28] = [
+    "abstract", "await", "become", "break", "continue", "do", "else", "false", "final", "let",
+    "loop", "macro", "match", "mod", "move", "override", "priv", "return", "static", "trait",
+    "true", "type", "typeof", "unsized", "virtual", "while", "yield", "builtin",
 ];
 
 #[test]

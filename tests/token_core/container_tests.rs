@@ -1,10 +1,13 @@
 //! Lists and boxes, what they and options print, and the text of refusals, at types of their own.
 
-use crate::core_tests::{is, made, nth, numbers};
+use crate::core_tests::{buffer_of, got, is, made, nth, numbers, text_is, tokens};
 use std::alloc::{AllocError, Global};
 use std::test::Fail;
 use token_core::token::{Comma, Crate, PathSep, SelfType, SelfValue};
-use token_core::{Boxed, Error, Items, Punctuated, ToTokens, TokenStream, TokensOrDefault};
+use token_core::{
+    Boxed, Error, Ident, Items, ParseStream, Punctuated, Span, ToTokens, TokenStream,
+    TokensOrDefault,
+};
 
 fn seven_eight(alloc: Global) -> Result<Items<u8>, AllocError> {
     Ok(Items::from_vec(vec![in alloc; 7, 8]?))
@@ -120,6 +123,29 @@ fn prints(alloc: Global) -> Result<TokenStream, AllocError> {
 fn what_holds_tokens_prints_them(rt: HostRuntime) {
     let out = made(&rt, prints(rt.alloc()));
     is(&rt, out.len() == 8, "eight trees");
+}
+
+/// Reads identifiers into std's collections, whose refusals become those of the read.
+fn idents(alloc: Global, input: &mut ParseStream<'_>) -> Result<Vec<Box<Ident>>, Error> {
+    let mut all = Vec::new(alloc);
+    while input.peek::<Ident>() {
+        let ident = Box::new(alloc, input.parse::<Ident>(alloc)?)?;
+        all.push(ident)?;
+    }
+    Ok(all)
+}
+
+#[test]
+fn reads_grow_collections_of_std(rt: HostRuntime) {
+    let alloc = rt.alloc();
+    let list = tokens(&rt, alloc, "a b union");
+    let buffer = buffer_of(&rt, alloc, &list);
+    let mut input = ParseStream::new(&buffer, Span::none());
+    let all = got(&rt, idents(alloc, &mut input));
+    is(&rt, all.len() == 3, "three");
+    for (ident, text) in all.iter().zip(["a", "b", "union"]) {
+        text_is(&rt, ident.text(), text);
+    }
 }
 
 #[test]

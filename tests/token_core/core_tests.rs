@@ -5,7 +5,7 @@
 //! `got`, `is` and the like (`lists`) stop a test where something is wrong.
 
 pub(crate) use crate::lists::{got, is, made, text_is};
-use std::alloc::{AllocError, Global};
+use std::alloc::{AllocError, AllocFailed, Global};
 use std::mem;
 use std::process::Abort;
 use std::test::Fail;
@@ -192,6 +192,7 @@ fn refusals_have_their_texts(rt: HostRuntime) {
             ErrorKind::BoundModifiersNotSupported,
             "trait bound modifiers are not supported here",
         ),
+        (ErrorKind::NestedTooDeep, "nested too deep"),
     ] {
         kind_says(&rt, alloc, kind, text);
     }
@@ -212,6 +213,8 @@ fn refusals_are_made(rt: HostRuntime) {
     let kind = ErrorKind::OutOfMemory;
     says(&rt, &Error::out_of_memory(), kind, "out of memory", none);
     says(&rt, &Error::from(AllocError), kind, "out of memory", none);
+    let refused = Error::from(AllocFailed { value: nth(1) });
+    says(&rt, &refused, kind, "out of memory", none);
 }
 
 /// Each read is refused with its text, at this place.

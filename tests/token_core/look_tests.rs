@@ -2,10 +2,11 @@
 
 use crate::core_tests::{buffer_of, is, nth, says, tokens};
 use token_core::token::{
-    And, As, At, Box, Brace, Bracket, Colon, Comma, Const, Crate, DotDot, DotDotDot, DotDotEq, Dyn,
-    Eq, EqEq, Extern, FatArrow, Fn, For, GroupToken, Gt, If, Impl, Le, Lt, Minus, Mut, Ne, Not, Or,
-    OrEq, OrOr, Paren, PathSep, Plus, Pound, Question, RArrow, Ref, SelfType, SelfValue, Semi,
-    ShlEq, Star, Super, Try, Underscore, Unsafe, Use, Where,
+    And, As, Async, At, Box, Brace, Bracket, Colon, Comma, Const, Crate, DotDot, DotDotDot,
+    DotDotEq, Dyn, Enum, Eq, EqEq, Extern, FatArrow, Fn, For, GroupToken, Gt, If, Impl, In, Le, Lt,
+    Minus, Mut, Ne, Not, Or, OrEq, OrOr, Paren, PathSep, Plus, Pound, Pub, Question, RArrow, Ref,
+    SelfType, SelfValue, Semi, ShlEq, Star, Struct, Super, Try, Underscore, Union, Unsafe, Use,
+    Where,
 };
 use token_core::{ErrorKind, Ident, Lifetime, Lit, LitStr, Lookahead, ParseStream, Word};
 
@@ -21,6 +22,16 @@ fn sees_word(look: &mut Lookahead<'_>) -> bool {
         | look.peek::<Use>()
         | look.peek::<Where>()
         | look.peek::<Underscore>()
+        | sees_item_word(look)
+}
+
+fn sees_item_word(look: &mut Lookahead<'_>) -> bool {
+    look.peek::<Async>()
+        | look.peek::<Enum>()
+        | look.peek::<In>()
+        | look.peek::<Pub>()
+        | look.peek::<Struct>()
+        | look.peek::<Union>()
 }
 
 fn sees_first_word(look: &mut Lookahead<'_>) -> bool {
@@ -86,9 +97,9 @@ fn sees_other(look: &mut Lookahead<'_>) -> bool {
 const ALL: &str = "expected one of: invisible group, square brackets, curly braces, parentheses, \
                    string literal, literal, lifetime, identifier, `Self`, `self`, `super`, `crate`, \
                    `as`, `box`, `const`, `dyn`, `extern`, `fn`, `for`, `if`, `impl`, `mut`, `ref`, \
-                   `try`, `unsafe`, `use`, `where`, `_`, `!`, `<`, `>`, `,`, `&`, `@`, `:`, `=`, `-`, \
-                   `|`, `#`, `?`, `;`, `*`, `::`, `..`, `...`, `..=`, `==`, `=>`, `<=`, `!=`, `|=`, \
-                   `||`, `->`, `<<=`";
+                   `try`, `unsafe`, `use`, `where`, `_`, `async`, `enum`, `in`, `pub`, `struct`, `union`, \
+                   `!`, `<`, `>`, `,`, `&`, `@`, `:`, `=`, `-`, `|`, `#`, `?`, `;`, `*`, `::`, `..`, \
+                   `...`, `..=`, `==`, `=>`, `<=`, `!=`, `|=`, `||`, `->`, `<<=`";
 
 #[test]
 fn choices_name_every_token(rt: HostRuntime) {
@@ -116,7 +127,7 @@ fn choices_name_marks_and_words_without_a_name(rt: HostRuntime) {
     is(&rt, !look.peek::<Word<99>>(), "no word without a name");
     let text = "expected `,` or ``";
     says(&rt, &look.error(alloc), ErrorKind::Expected, text, nth(0));
-    is(&rt, !look.peek::<Word<53>>(), "no other one");
+    is(&rt, !look.peek::<Word<54>>(), "no other one");
     is(&rt, !look.peek::<Comma>(), "no comma again");
     says(&rt, &look.error(alloc), ErrorKind::Expected, text, nth(0));
 }

@@ -5,10 +5,10 @@ use crate::core_tests::{buffer_of, got, ident_is, is, made, nth, text_is, tokens
 use std::alloc::{AllocError, Global};
 use std::process::Abort;
 use token_core::token::{
-    And, As, At, Box, Colon, Comma, Const, Crate, DotDot, DotDotDot, DotDotEq, Dyn, Eq, EqEq,
-    Extern, FatArrow, Fn, For, GroupToken, Gt, If, Impl, Le, Lt, Minus, Mut, Ne, Not, Or, OrEq,
-    OrOr, PathSep, Plus, Pound, Question, RArrow, Ref, SelfType, SelfValue, Semi, ShlEq, Star,
-    Super, Try, Underscore, Unsafe, Use, Where,
+    And, As, Async, At, Box, Colon, Comma, Const, Crate, DotDot, DotDotDot, DotDotEq, Dyn, Enum,
+    Eq, EqEq, Extern, FatArrow, Fn, For, GroupToken, Gt, If, Impl, In, Le, Lt, Minus, Mut, Ne, Not,
+    Or, OrEq, OrOr, PathSep, Plus, Pound, Pub, Question, RArrow, Ref, SelfType, SelfValue, Semi,
+    ShlEq, Star, Struct, Super, Try, Underscore, Union, Unsafe, Use, Where,
 };
 use token_core::{
     DelimSpan, Error, Ident, Index, Lifetime, Lit, LitBool, LitKind, LitNegative, LitSort, LitStr,
@@ -207,6 +207,51 @@ fn every_other_word_is_read(rt: HostRuntime) {
     word::<Use>(&rt, alloc, "use", "r#use");
     word::<Where>(&rt, alloc, "where", "r#where");
     word::<Underscore>(&rt, alloc, "_", "");
+}
+
+#[test]
+fn every_word_of_items_is_read(rt: HostRuntime) {
+    let alloc = rt.alloc();
+    word::<Async>(&rt, alloc, "async", "r#async");
+    word::<Enum>(&rt, alloc, "enum", "r#enum");
+    word::<In>(&rt, alloc, "in", "r#in");
+    word::<Pub>(&rt, alloc, "pub", "r#pub");
+    word::<Struct>(&rt, alloc, "struct", "r#struct");
+}
+
+#[test]
+fn union_is_read_as_a_word_and_as_an_identifier(rt: HostRuntime) {
+    let alloc = rt.alloc();
+    let list = tokens(&rt, alloc, "union union");
+    let buffer = buffer_of(&rt, alloc, &list);
+    let mut input = ParseStream::new(&buffer, Span::none());
+    let word = got(&rt, input.parse::<Union>(alloc));
+    is(&rt, word.span == nth(0), "the word");
+    is(&rt, is_text(&printed(&rt, alloc, &word), "union"), "prints");
+    is(&rt, Union::default().span == Span::none(), "the default");
+    ident_is(&rt, alloc, &mut input, "union");
+    wants(
+        &rt,
+        input.parse::<Union>(alloc),
+        "unexpected end of input, expected `union`",
+        Span::none(),
+    );
+}
+
+#[test]
+fn another_word_is_no_union(rt: HostRuntime) {
+    let alloc = rt.alloc();
+    for text in ["r#union", "unions", "enum", "{ }"] {
+        let list = tokens(&rt, alloc, text);
+        let buffer = buffer_of(&rt, alloc, &list);
+        let mut input = ParseStream::new(&buffer, Span::none());
+        wants(
+            &rt,
+            input.parse::<Union>(alloc),
+            "expected `union`",
+            nth(0),
+        );
+    }
 }
 
 fn is_at_builtin(rt: &impl Abort, alloc: Global, text: &str, there: bool) {

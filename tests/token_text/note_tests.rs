@@ -1,9 +1,9 @@
-//! Notes on refusals: lines, columns, tabs, wide characters and places past the end.
+//! Notes on refusals: lines and their ends, columns, tabs, wide characters, characters of control and hidden ones, and places past the end.
 
 use std::alloc::Global;
 use std::test::Fail;
 use token_core::{Error, ErrorKind, Span};
-use token_text::{lex, note, note_at, place_of};
+use token_text::{lex, note, note_at, note_from, place_of};
 
 #[test]
 fn notes(rt: HostRuntime) -> Result<(), Fail> {
@@ -30,11 +30,80 @@ fn notes(rt: HostRuntime) -> Result<(), Fail> {
         ("", 0, 0, "f:1:1: no\n\n^"),
         ("a", 1, 1, "f:1:2: no\na\n ^"),
         ("ab\n", 3, 3, "f:1:3: no\nab\n  ^"),
-        ("ab\n\n", 4, 4, "f:2:1: no\n\n^"),
+        ("ab\n\n", 4, 4, "f:1:3: no\nab\n  ^"),
         ("ab", 9, 12, "f:1:3: no\nab\n  ^"),
         ("\n", 0, 0, "f:1:1: no\n\n^"),
     ] {
         let got = note_at(rt.alloc(), "f", text, "no", start, end)?;
+        assert_eq!(rt; got.as_str(), want);
+    }
+    Ok(())
+}
+
+#[test]
+fn line_ends(rt: HostRuntime) -> Result<(), Fail> {
+    for (text, start, end, want) in [
+        ("Vec<\r\n", 6, 6, "f:1:5: no\nVec<\n    ^"),
+        ("a\r\nbc\r\nd\r\n", 3, 4, "f:2:1: no\nbc\n^"),
+        // a place over the end of its line, within it, and at it
+        ("ab\r\nc", 0, 5, "f:1:1: no\nab\n^^"),
+        ("ab\r\nc", 0, 3, "f:1:1: no\nab\n^^"),
+        ("ab\r\nc", 2, 4, "f:1:3: no\nab\n  ^"),
+        // a carriage return by itself
+        ("a\rb c", 4, 5, "f:1:5: no\na\u{240d}b c\n    ^"),
+        ("\r\n", 2, 2, "f:1:1: no\n\n^"),
+    ] {
+        let got = note_at(rt.alloc(), "f", text, "no", start, end)?;
+        assert_eq!(rt; got.as_str(), want);
+    }
+    Ok(())
+}
+
+#[test]
+fn ends_of_texts(rt: HostRuntime) -> Result<(), Fail> {
+    for (text, want) in [
+        ("Vec<  ", "f:1:5: no\nVec<  \n    ^"),
+        ("Vec<\n\n\n", "f:1:5: no\nVec<\n    ^"),
+        ("Vec< // so\n", "f:1:5: no\nVec< // so\n    ^"),
+        ("a\nVec< /* so\n */ // and\n\n", "f:2:5: no\nVec< /* so\n    ^"),
+        // what looks like a comment
+        ("f(\"// no\"", "f:1:10: no\nf(\"// no\"\n         ^"),
+        // no token at all
+        ("// so\n", "f:1:1: no\n// so\n^"),
+        // a comment of documentation is a token, as is what begins none
+        ("a\n/// so\r\n\n", "f:2:7: no\n/// so\n      ^"),
+        ("a //! so\n// and", "f:1:9: no\na //! so\n        ^"),
+        ("a \\ b\n\n", "f:1:6: no\na \\ b\n     ^"),
+    ] {
+        let got = note_at(rt.alloc(), "f", text, "no", text.len(), text.len())?;
+        assert_eq!(rt; got.as_str(), want);
+    }
+    Ok(())
+}
+
+#[test]
+fn hidden_characters(rt: HostRuntime) -> Result<(), Fail> {
+    for (text, start, end, want) in [
+        ("\u{feff}Vec<T>", 0, 3, "f:1:1: no\n<U+FEFF>Vec<T>\n^^^^^^^^"),
+        ("a\u{200b}b c", 1, 4, "f:1:2: no\na<U+200B>b c\n ^^^^^^^^"),
+        ("a\u{202e}b c", 6, 7, "f:1:12: no\na<U+202E>b c\n           ^"),
+        // characters of control
+        ("a \u{1b}[2J b", 2, 3, "f:1:3: no\na \u{241b}[2J b\n  ^"),
+        ("a \u{1b}[2J b", 7, 8, "f:1:8: no\na \u{241b}[2J b\n       ^"),
+        ("\0\u{1f}\u{7f}x", 3, 4, "f:1:4: no\n\u{2400}\u{241f}\u{2421}x\n   ^"),
+        ("\u{9b}2J x", 5, 6, "f:1:12: no\n<U+009B>2J x\n           ^"),
+        ("\u{80}\u{9f}", 2, 4, "f:1:9: no\n<U+0080><U+009F>\n        ^^^^^^^^"),
+    ] {
+        let got = note_at(rt.alloc(), "f", text, "no", start, end)?;
+        assert_eq!(rt; got.as_str(), want);
+    }
+    Ok(())
+}
+
+#[test]
+fn first_lines(rt: HostRuntime) -> Result<(), Fail> {
+    for (line, want) in [(1, "f:2:1: no\nbc\n^"), (40, "f:41:1: no\nbc\n^")] {
+        let got = note_from(rt.alloc(), "f", line, "a\nbc", "no", 2, 3)?;
         assert_eq!(rt; got.as_str(), want);
     }
     Ok(())
@@ -65,5 +134,13 @@ fn nowhere_is_the_end(rt: HostRuntime) -> Result<(), Fail> {
     assert_eq!(rt; place_of(text, &e), (6, 6));
     let got = note(rt.alloc(), "a.rs", text, &e)?;
     assert_eq!(rt; got.as_str(), "a.rs:1:6: unexpected token\nVec<T\n     ^");
+    Ok(())
+}
+
+#[test]
+fn memory_has_no_place(rt: HostRuntime) -> Result<(), Fail> {
+    let e = Error::out_of_memory();
+    let got = note(rt.alloc(), "a.rs", "Vec<T>", &e)?;
+    assert_eq!(rt; got.as_str(), "a.rs: out of memory");
     Ok(())
 }

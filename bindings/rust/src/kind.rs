@@ -74,6 +74,8 @@ pub enum Kind {
     OpenRangeInSlice,
     /// A trait bound has `const`, `[const]` or `async` where none is supported.
     BoundModifiersNotSupported,
+    /// A text goes down more levels than its limit.
+    NestedTooDeep,
     /// A kind that this crate doesn't know, of a library that is newer than it.
     Other,
 }
@@ -82,7 +84,7 @@ pub enum Kind {
 const REFUSALS: usize = 16;
 
 /// The refusals of a text, in the order of their numbers.
-const KINDS: [Kind; 34] = [
+const KINDS: [Kind; 35] = [
     Kind::OutOfMemory,
     Kind::Expected,
     Kind::Unexpected,
@@ -117,6 +119,7 @@ const KINDS: [Kind; 34] = [
     Kind::RangeWithoutEnd,
     Kind::OpenRangeInSlice,
     Kind::BoundModifiersNotSupported,
+    Kind::NestedTooDeep,
 ];
 
 impl Kind {
@@ -128,6 +131,11 @@ impl Kind {
             (_, Some(kind)) => *kind,
             _ => Kind::Other,
         }
+    }
+
+    /// Whether it is one of a text, and has a place there.
+    pub(crate) fn has_place(self) -> bool {
+        !matches!(self, Kind::UnknownReader | Kind::OutOfMemory)
     }
 }
 

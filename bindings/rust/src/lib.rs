@@ -109,11 +109,14 @@ impl Refusal {
         self.kind == Kind::OutOfMemory
     }
 
-    /// For people: `NAME:LINE:COLUMN: MESSAGE`, the line of the text, and marks under the place. `name` is the text's, such as that of its file, and `text`
-    /// the one that was read.
+    /// For people: `NAME:LINE:COLUMN: MESSAGE`, the line of the text, and marks under the place; `NAME: MESSAGE` of what has no place in the text. `name`
+    /// is the text's, such as that of its file, and `text` the one that was read.
     #[must_use]
     pub fn note(&self, name: &str, text: &str) -> String {
         let message = &self.message;
+        if !self.kind.has_place() {
+            return format!("{name}: {message}");
+        }
         let call = |out: &mut [u8], report: &mut Report| {
             // (each slice lives as long as the call, which reads the first three and writes the others)
             unsafe {

@@ -119,6 +119,12 @@ fn notes_are_rendered() {
 }
 
 #[test]
+fn notes_without_a_place_have_no_line() {
+    let refusal = read("Tipe", "Vec<T>").unwrap_err();
+    assert_eq!(refusal.note("a.rs", "Vec<T>"), "a.rs: unknown reader");
+}
+
+#[test]
 fn long_prints_are_whole() {
     let text = format!("({})", "a,".repeat(20_000));
     let shown = read("Type", &text).unwrap();

@@ -1,5 +1,1 @@
-pub mod Both
-pub mod Heads
-pub mod Same
 pub mod Tokens
-pub mod Refused

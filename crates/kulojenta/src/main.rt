@@ -85,12 +85,26 @@ fn read<R: Source>(
         Ok(bytes) => bytes,
         Err(unread) => return complain(rt, name, "", &Fault::from(unread)),
     };
-    let Ok(text) = str::from_utf8(&bytes) else {
-        return complain(rt, name, "", &Fault::NotUtf8);
+    let text = match str::from_utf8(&bytes) {
+        Ok(text) => after_byte_order_mark(text),
+        Err(error) => {
+            let fault = Fault::NotUtf8;
+            let from = error.valid_up_to();
+            let _ = eprintln!(rt; "{name}: {}, from byte {from} on", fault.text());
+            return Ok(ExitCode::from(fault.status()));
+        }
     };
     match read_text::<VerbatimExpr>(rt.alloc(), reader, text) {
         Ok(shown) => Ok(write(rt, shown.as_str())),
         Err(refusal) => complain(rt, name, text, &Fault::from(refusal)),
+    }
+}
+
+/// A text without the byte order mark that editors may put before it.
+fn after_byte_order_mark(text: &str) -> &str {
+    match text.strip_prefix('\u{feff}') {
+        Some(rest) => rest,
+        None => text,
     }
 }
 

@@ -60,7 +60,7 @@ pub trait Verbatim<T>: Copy {
 fn sees_ident_or_underscore(input: &ParseStream<'_>) -> bool
     ensures { result ≡ reading.sees_ident_or_underscore input.now.rest }
 {
-    input.peek::<Ident>() | input.peek::<Underscore>()
+    input.peek::<Ident>() || input.peek::<Underscore>()
 }
 
 /// Whether a name is at the front: an identifier or `_`, and where `own` says so `self`, before a `:` that is not `::`.
@@ -68,8 +68,8 @@ fn sees_ident_or_underscore(input: &ParseStream<'_>) -> bool
 fn sees_name(input: &ParseStream<'_>, own: bool) -> bool
     ensures { result ≡ reading.sees_name own input.now.rest }
 {
-    (sees_ident_or_underscore(input) | (own & input.peek::<SelfValue>()))
-        & (input.peek2::<Colon>() & !input.peek2::<PathSep>())
+    (sees_ident_or_underscore(input) || (own && input.peek::<SelfValue>()))
+        && (input.peek2::<Colon>() && !input.peek2::<PathSep>())
 }
 
 /// Whether `mut self` is at the front.
@@ -77,7 +77,7 @@ fn sees_name(input: &ParseStream<'_>, own: bool) -> bool
 fn sees_mut_self(input: &ParseStream<'_>) -> bool
     ensures { result ≡ reading.sees_mut_self input.now.rest }
 {
-    input.peek::<Mut>() & input.peek2::<SelfValue>()
+    input.peek::<Mut>() && input.peek2::<SelfValue>()
 }
 
 /// Whether `...` is at the front, or a name before it.
@@ -86,7 +86,8 @@ fn sees_dots(input: &ParseStream<'_>) -> bool
     ensures { result ≡ reading.sees_dots input.now.rest }
 {
     input.peek::<DotDotDot>()
-        | (sees_ident_or_underscore(input) & (input.peek2::<Colon>() & input.peek3::<DotDotDot>()))
+        || (sees_ident_or_underscore(input)
+            && (input.peek2::<Colon>() && input.peek3::<DotDotDot>()))
 }
 
 /// Whether a name is not `self`, or none is there.
@@ -230,7 +231,7 @@ impl<
     {
         let from = input.cursor();
         let name = parse_optional_name(self.alloc, input, true)?;
-        if is_other(&name) & sees_mut_self(input) {
+        if is_other(&name) && sees_mut_self(input) {
             return parse_own(self.alloc, &from, input, verbatim);
         }
         let ty = self.value(input, place)?;

@@ -124,11 +124,11 @@ fn sees_bound(input: &ParseStream<'_>, consts: bool) -> bool
     ensures { result ≡ reading.sees_bound consts input.now.rest }
 {
     input.peek_any_ident()
-        | input.peek::<PathSep>()
-        | input.peek::<Question>()
-        | input.peek::<Lifetime>()
-        | input.peek::<Paren>()
-        | (consts & input.peek::<Bracket>())
+        || input.peek::<PathSep>()
+        || input.peek::<Question>()
+        || input.peek::<Lifetime>()
+        || input.peek::<Paren>()
+        || (consts && input.peek::<Bracket>())
 }
 
 /// Bounds of which the first is needed; after a `+` the list may be over.
@@ -148,11 +148,11 @@ impl End<Plus> for Bounds {
     ghost joint = { λ end. tokens.plus };
 
     fn is_over(self, input: &ParseStream<'_>, first: bool) -> bool {
-        !first & !sees_bound(input, self.consts)
+        !first && !sees_bound(input, self.consts)
     }
 
     fn goes_on(self, input: &ParseStream<'_>) -> bool {
-        self.plus & input.peek::<Plus>()
+        self.plus && input.peek::<Plus>()
     }
 
     fn parse_joint(self, alloc: Global, input: &mut ParseStream<'_>) -> Result<Plus, Error> {
@@ -197,7 +197,7 @@ impl End<Plus> for ToTypeParamEnd {
 
     #[tactic(auto, unfolding(crate::specs::params::Reading::ends_type))]
     fn is_over(self, input: &ParseStream<'_>, first: bool) -> bool {
-        input.is_empty() | input.peek::<Comma>() | input.peek::<Gt>() | input.peek::<Eq>()
+        input.is_empty() || input.peek::<Comma>() || input.peek::<Gt>() || input.peek::<Eq>()
     }
 
     fn goes_on(self, input: &ParseStream<'_>) -> bool {
@@ -222,7 +222,7 @@ impl End<Plus> for ToLifetimeParamEnd {
 
     #[tactic(auto, unfolding(crate::specs::params::Reading::ends_lifetime))]
     fn is_over(self, input: &ParseStream<'_>, first: bool) -> bool {
-        input.is_empty() | input.peek::<Comma>() | input.peek::<Gt>()
+        input.is_empty() || input.peek::<Comma>() || input.peek::<Gt>()
     }
 
     fn goes_on(self, input: &ParseStream<'_>) -> bool {

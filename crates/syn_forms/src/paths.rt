@@ -27,9 +27,8 @@ use token_core::{Boxed, Error, Ident, ParseStream, Punctuated};
 fn peek_bare_word(input: &ParseStream<'_>) -> bool
     ensures { result ≡ sees_word reading.is_bare_word input.now.rest }
 {
-    // all tested, so that the answer is one value
     input.peek::<Super>()
-        | (input.peek::<SelfValue>() | (input.peek::<Crate>() | input.peek::<Try>()))
+        || (input.peek::<SelfValue>() || (input.peek::<Crate>() || input.peek::<Try>()))
 }
 
 /// Whether `::` and `<` are at the front: arguments that may follow a segment in both styles.
@@ -37,7 +36,7 @@ fn peek_bare_word(input: &ParseStream<'_>) -> bool
 pub fn peek_turbofish(input: &ParseStream<'_>) -> bool
     ensures { result ≡ reading.sees_turbofish input.now.rest }
 {
-    input.peek::<PathSep>() & input.peek3::<Lt>()
+    input.peek::<PathSep>() && input.peek3::<Lt>()
 }
 
 /// Whether arguments in angle brackets follow a segment.
@@ -46,7 +45,7 @@ fn peek_arguments(input: &ParseStream<'_>, style: PathStyle) -> bool
 {
     match style {
         PathStyle::Expr => peek_turbofish(input),
-        PathStyle::AsWritten => peek_angle(input) | peek_turbofish(input),
+        PathStyle::AsWritten => peek_angle(input) || peek_turbofish(input),
     }
 }
 
@@ -55,7 +54,7 @@ fn peek_arguments(input: &ParseStream<'_>, style: PathStyle) -> bool
 fn goes_on(input: &ParseStream<'_>) -> bool
     ensures { result ≡ reading.goes_on input.now.rest }
 {
-    input.peek::<PathSep>() & !input.peek3::<Paren>()
+    input.peek::<PathSep>() && !input.peek3::<Paren>()
 }
 
 /// Where segments go on after one.
@@ -262,7 +261,7 @@ impl<
             result input.old input.new }
         ensures fewer { ahead input.new ≤ ahead input.old }
     {
-        if ends_in_mark(&path) | !goes_on(input) {
+        if ends_in_mark(&path) || !goes_on(input) {
             return Ok(path);
         }
         let sep = parse_path_sep(self.alloc, input)?;

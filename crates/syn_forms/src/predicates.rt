@@ -27,11 +27,11 @@ fn ends_predicate(input: &ParseStream<'_>) -> bool
     ensures { result ≡ reading.ends_predicate input.now.rest }
 {
     input.is_empty()
-        | input.peek::<Brace>()
-        | input.peek::<Comma>()
-        | input.peek::<Semi>()
-        | (input.peek::<Colon>() & !input.peek::<PathSep>())
-        | input.peek::<Eq>()
+        || input.peek::<Brace>()
+        || input.peek::<Comma>()
+        || input.peek::<Semi>()
+        || (input.peek::<Colon>() && !input.peek::<PathSep>())
+        || input.peek::<Eq>()
 }
 
 /// Whether the bounds of a lifetime end here: the same, at every `:`.
@@ -40,11 +40,11 @@ fn ends_lifetime_predicate(input: &ParseStream<'_>) -> bool
     ensures { result ≡ reading.ends_lifetime_predicate input.now.rest }
 {
     input.is_empty()
-        | input.peek::<Brace>()
-        | input.peek::<Comma>()
-        | input.peek::<Semi>()
-        | input.peek::<Colon>()
-        | input.peek::<Eq>()
+        || input.peek::<Brace>()
+        || input.peek::<Comma>()
+        || input.peek::<Semi>()
+        || input.peek::<Colon>()
+        || input.peek::<Eq>()
 }
 
 /// The predicates of a where clause: a comma stands between them, and may follow the last.

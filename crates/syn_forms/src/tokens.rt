@@ -3,6 +3,7 @@
 ghost use Rattle.std.specs.Prelude.{◌<◌, ◌≤◌, IfOk};
 ghost use Rattle.token_core.specs.declared.tree.Delimiter.TheVariants as delimiter;
 ghost use Rattle.token_core.specs.Groups as groups;
+ghost use Rattle.token_core.specs.Fronted.{Fronted, said};
 ghost use Rattle.token_core.specs.Headline.{Headline, Heads};
 ghost use Rattle.token_core.specs.Lifetimes.{read_lifetime, read_optional_lifetime};
 ghost use Rattle.token_core.specs.Reads as spec;
@@ -37,11 +38,14 @@ impl Parse for PointerMutability {
 
     ghost promise = { Headline grammars.mutability };
 
+    ghost fronts = { said grammars.mutability_front };
+
     fn parse(alloc: Global, input: &mut ParseStream<'_>) -> Result<PointerMutability, Error>
         ensures reads { Reads (reading.mutability input.old) result input.new }
         ensures within { Follows input.old input.new }
-        ensures front { Visible input.old.rest → IfOk result (λ x. IsMutability x input.old.rest input.new.rest) }
+        ensures takes { Visible input.old.rest → IfOk result (λ x. IsMutability x input.old.rest input.new.rest) }
         ensures promise { Heads grammars.mutability input.old result input.new }
+        ensures fronts { Fronted grammars.mutability_front input.old result input.new }
     {
         parse_mutability(alloc, input)
     }

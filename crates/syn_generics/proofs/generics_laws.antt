@@ -1,4 +1,3 @@
-pub mod Clauses
 pub mod FrontLaws
 pub mod Prints
 pub mod Views

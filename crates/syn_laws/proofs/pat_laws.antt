@@ -1,2 +1,1 @@
-pub mod Normal
 pub mod Stays

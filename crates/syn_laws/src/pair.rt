@@ -3,8 +3,8 @@
 ghost use Rattle.token_core.specs.Fronted.{Fronted};
 ghost use Rattle.token_core.specs.Reads.{Follows, Reader, Reads};
 ghost use Rattle.syn_forms.specs.declared.places.TypePlace.TheVariants.{Plus};
+ghost use Rattle.syn_ty.specs.ty.Frontings as frontings;
 ghost use Rattle.syn_ty.specs.ty.Knot as knot;
-ghost use Rattle.syn_ty.specs.ty.Promises as promises;
 ghost use Rattle.syn_laws.specs.pair.Fronts as pairs;
 
 use std::alloc::Global;
@@ -39,14 +39,14 @@ pub fn parse_pair<T: Parse>(alloc: Global, input: &mut ParseStream<'_>) -> Resul
     })
 }
 
-/// Reads two types with a comma between them, before the end or another comma.
+/// Reads two types with a comma between them, before what does not go on with a type.
 pub fn parse_types<A: Attributes, E: Value>(
     alloc: Global,
     input: &mut ParseStream<'_>,
 ) -> Result<Pair<TypeOf<A, E>>, Error>
     ensures reads { Reads (pairs.read (knot.ty A.reads E.reads Plus) input.old) result input.new }
     ensures within { Follows input.old input.new }
-    ensures fronts { Fronted (pairs.fronting (promises.ty_front A.Attributes E.Value)) input.old result input.new }
+    ensures fronts { Fronted (pairs.fronting (frontings.ty A.Attributes E.Value Plus)) input.old result input.new }
 {
     parse_pair::<TypeOf<A, E>>(alloc, input)
 }

@@ -3,22 +3,20 @@ use Rattle.std.proofs.Common.{◌≡◌, ℕ, zero, suc, Bool, true, false, not,
 use Rattle.token_core.specs.declared.lifetime.Lifetime.{Lifetime}
 use Rattle.token_core.specs.declared.lit.LitStr.{LitStr}
 use Rattle.token_core.specs.declared.mark.Spans.{Spans}
-use Rattle.token_core.specs.declared.member.Index.{Index}
 use Rattle.token_core.specs.declared.range.RangeLimits.TheVariants as limits
 use Rattle.token_core.specs.declared.span.DelimSpan.{DelimSpan}
 use Rattle.token_core.specs.declared.span.Span.{Span}
 use Rattle.token_core.specs.declared.tree.Delimiter.{Delimiter}
 use Rattle.token_core.specs.declared.tree.Ident.{Ident}
-use Rattle.token_core.specs.declared.tree.Literal.{Literal}
 use Rattle.token_core.specs.Front.{front, past_ends}
 use Rattle.token_core.specs.Lifetimes.{past_lifetime, read_lifetime}
-use Rattle.token_core.specs.Lits.{end_of, lit_name, next_lit, past_lit, past_str, read_lit, read_str}
+use Rattle.token_core.specs.Lits.{end_of, lit_name, past_lit, past_str, read_lit, read_str}
 use Rattle.token_core.specs.Loops.{size, listed_from, listed, terminated}
 use Rattle.token_core.specs.Marks as marks
-use Rattle.token_core.specs.Members.{index, index_at, index_if, int_name, is_int, read_index, read_member, sees_int, value}
+use Rattle.token_core.specs.Members.{value}
 use Rattle.token_core.specs.Ranges as ranges
 use Rattle.token_core.specs.Reads.{Reader, Outcome, Body, Follows, IsSuffix, all_of, ◌>>=◌, ◌<$>◌, as_group, bodied, closing, delimited, expected, finished}
-use Rattle.token_core.specs.Reads.{goes_on, in_group, inside, is_ident, leaves, next_word, open_group, opened, optional, past, past_mark, read_mark, read_word, same_delimiter, sees_word, word_if}
+use Rattle.token_core.specs.Reads.{goes_on, in_group, inside, leaves, next_word, open_group, opened, optional, past, past_mark, read_mark, read_word, same_delimiter, word_if}
 use Rattle.token_core.specs.Refusal.{Refusal}
 use Rattle.token_core.specs.Stream.{Stream}
 use Rattle.token_core.specs.Toks.{Bytes, Toks}
@@ -26,7 +24,7 @@ use Rattle.token_core.proofs.Suffixes.{first-first, follows_past, follows_self, 
 use Rattle.token_core.proofs.Took.{branch}
 use Rattle.token_core.proofs.Turns.{chain, same_pair}
 use Rattle.token_core.proofs.lifetime_laws.{suffix_lifetime}
-use Rattle.token_core.proofs.lit_laws.{suffix_lit, suffix_literal, suffix_str}
+use Rattle.token_core.proofs.lit_laws.{suffix_lit, suffix_str}
 use Rattle.syn_path.specs.Took.{Along}
 
 -- ---- what is put together
@@ -97,26 +95,6 @@ string s t x e = went (λ (z : LitStr). z.span) _ s t x (past_str s.rest) (λ p 
 pub literal : Along read_lit
 unfolding read_lit
 literal s t x e = went end_of (expected lit_name s) s t x (past_lit s.rest) (λ p g. suffix_lit s.rest p g) e
-
-index_if_at : (s t : Stream) (x : Index) (p : Literal × Toks) (o : Option ℕ) → IsSuffix p.1 s.rest → index_if s p o ≡ Ok (x, t) → Follows s t
-index_if_at s t x p None h k = cc
-index_if_at s t x p (Some n) h k = on_to s (past s p.1 p.0.span) t (index n p.0.span) x (follows_past s p.1 p.0.span h) k
-
-index_is : (s t : Stream) (x : Index) (o : Option (Literal × Toks)) → ((p : Literal × Toks) → o ≡ Some p → IsSuffix p.1 s.rest) → index_at s o ≡ Ok (x, t) → Follows s t
-index_is s t x None h k = cc
-index_is s t x (Some p) h k = by_test (is_int p.0.kind) k
-  where
-    by_test : (b : Bool) → ◌≡◌ {A = Outcome Index} (if b then index_if s p (value p.0.text) else Err (expected int_name s)) (Ok (x, t)) → Follows s t
-    by_test true k = index_if_at s t x p (value p.0.text) (h p refl) k
-    by_test false k = cc
-
-pub index_along : Along read_index
-unfolding read_index
-index_along s t x e = index_is s t x (next_lit s.rest) (λ p g. suffix_literal s.rest p g) e
-
-pub member : Along read_member
-unfolding read_member
-member = either (λ z. sees_word is_ident z.rest) (made _ (word _ _)) (either (λ z. sees_int z.rest) (made _ index_along) (refused _))
 
 -- the limits of a range
 pub range_limits : Along ranges.read

@@ -5,9 +5,11 @@ ghost use Rattle.token_core.specs.Rebuilt.{Visible};
 ghost use Rattle.token_core.specs.Refusal.{Made};
 ghost use Rattle.token_core.specs.Spans.{none};
 ghost use Rattle.token_core.specs.Trees.{trees};
+ghost use Rattle.token_core.specs.Fronted.{Fronts, KeepsFront};
 ghost use Rattle.token_core.specs.Prints.{Print, Extends, Appends};
 ghost use Rattle.token_core.specs.Toks.{Toks};
 ghost use Rattle.token_core.specs.Reads.{Fails, Follows, Gives, Keeps, Parses, Reader, Reads, sees_word};
+ghost use Rattle.token_core.specs.Fronted.{Fronted};
 ghost use Rattle.token_core.specs.Headline.{Heads};
 ghost use Rattle.syn_path.specs.declared.path.PathOf.{PathOf};
 ghost use Rattle.syn_path.specs.declared.path.PathSegmentOf.{PathSegmentOf};
@@ -100,6 +102,12 @@ pub trait ReadArguments: Arguments {
     /// What a whole read of a segment with such arguments promises.
     ghost promise_segment: { Toks → Option (PathSegmentOf Self) → Type 0 };
 
+    /// What a read of a path with such arguments promises on the front of a list.
+    ghost fronts_path: { Fronts (PathOf Self) };
+
+    /// What a read of a segment with such arguments promises on the front of a list.
+    ghost fronts_segment: { Fronts (PathSegmentOf Self) };
+
     /// By what a path with such arguments spells what its read took.
     ghost spells_path: { PathOf Self → Toks → Toks → Type 0 };
 
@@ -110,7 +118,8 @@ pub trait ReadArguments: Arguments {
     fn parse_path(alloc: Global, input: &mut ParseStream<'_>) -> Result<PathOf<Self>, Error>
         ensures parses { Parses reads_path result input.old input.new }
         ensures promise { Keeps promise_path input.old result input.new }
-        ensures front { Takes spells_path input.old result input.new };
+        ensures takes { Takes spells_path input.old result input.new }
+        ensures fronts { KeepsFront fronts_path input.old result input.new };
 
     /// Reads a segment.
     fn parse_segment(
@@ -119,7 +128,8 @@ pub trait ReadArguments: Arguments {
     ) -> Result<PathSegmentOf<Self>, Error>
         ensures parses { Parses reads_segment result input.old input.new }
         ensures promise { Keeps promise_segment input.old result input.new }
-        ensures front { Takes spells_segment input.old result input.new };
+        ensures takes { Takes spells_segment input.old result input.new }
+        ensures fronts { KeepsFront fronts_segment input.old result input.new };
 }
 
 /// The arguments of a segment that has none.
@@ -341,12 +351,14 @@ impl<A: Arguments> PathOf<A> {
     /// without arguments. It is refused where no segment begins, and after a `::` that none follows.
     ///
     /// On the front of a list without invisible groups it took what the path spells. Where the stream has no left-over tree, a whole read that begins here keeps the promise of the grammar: it
-    /// answers only a path that spells the list, the path that a list spells clearly, and its print is read again.
+    /// answers only a path that spells the list, the path that a list spells clearly, and its print is read again. On the front of a
+    /// list it keeps that of fronts, where the end follows or anything but a `::`.
     pub fn parse_mod_style(alloc: Global, input: &mut ParseStream<'_>) -> Result<PathOf<A>, Error>
         ensures parses { Parses (reading.mod_style A.absent) result input.old input.new }
-        ensures front { Visible input.old.rest →
+        ensures takes { Visible input.old.rest →
             IfOk result (λ p. IsModPath false A.absent p input.old.rest input.new.rest) }
-        ensures headline { Heads (grammars.mod_style A.absent A.shown) input.old result input.new }
+        ensures promise { Heads (grammars.mod_style A.absent A.shown) input.old result input.new }
+        ensures fronts { Fronted (grammars.mod_style_front A.absent A.shown) input.old result input.new }
     {
         parse_bare_path(alloc, input, SegmentStyle::Mod)
     }
@@ -360,11 +372,14 @@ impl<A: ReadArguments> Parse for PathOf<A> {
 
     ghost promise = { A.promise_path };
 
+    ghost fronts = { A.fronts_path };
+
     fn parse(alloc: Global, input: &mut ParseStream<'_>) -> Result<PathOf<A>, Error>
         ensures reads { Reads (A.reads_path input.old) result input.new }
         ensures within { Follows input.old input.new }
         ensures promise { Keeps A.promise_path input.old result input.new }
-        ensures front { Takes A.spells_path input.old result input.new }
+        ensures takes { Takes A.spells_path input.old result input.new }
+        ensures fronts { KeepsFront A.fronts_path input.old result input.new }
     {
         A::parse_path(alloc, input)
     }
@@ -378,11 +393,14 @@ impl<A: ReadArguments> Parse for PathSegmentOf<A> {
 
     ghost promise = { A.promise_segment };
 
+    ghost fronts = { A.fronts_segment };
+
     fn parse(alloc: Global, input: &mut ParseStream<'_>) -> Result<PathSegmentOf<A>, Error>
         ensures reads { Reads (A.reads_segment input.old) result input.new }
         ensures within { Follows input.old input.new }
         ensures promise { Keeps A.promise_segment input.old result input.new }
-        ensures front { Takes A.spells_segment input.old result input.new }
+        ensures takes { Takes A.spells_segment input.old result input.new }
+        ensures fronts { KeepsFront A.fronts_segment input.old result input.new }
     {
         A::parse_segment(alloc, input)
     }
@@ -409,8 +427,7 @@ pub fn parse_bare_path<A: Arguments>(
 pub fn peek_angle(input: &ParseStream<'_>) -> bool
     ensures { result ≡ reading.sees_angle input.now.rest }
 {
-    // all tested, so that the answer is one value
-    input.peek::<Lt>() & (!input.peek::<Le>() & !input.peek::<ShlEq>())
+    input.peek::<Lt>() && (!input.peek::<Le>() && !input.peek::<ShlEq>())
 }
 
 /// A `::` that may stand before a path.
@@ -426,10 +443,9 @@ pub fn parse_leading(alloc: Global, input: &mut ParseStream<'_>) -> Result<Optio
 pub fn begins_mod_segment(input: &ParseStream<'_>) -> bool
     ensures { result ≡ sees_word is_mod_word input.now.rest }
 {
-    // all tested, so that the answer is one value
     input.peek::<Ident>()
-        | (input.peek::<Super>()
-            | (input.peek::<SelfValue>() | (input.peek::<SelfType>() | input.peek::<Crate>())))
+        || (input.peek::<Super>()
+            || (input.peek::<SelfValue>() || (input.peek::<SelfType>() || input.peek::<Crate>())))
 }
 
 /// Whether a segment of this style begins here.

@@ -1,12 +1,11 @@
 -- What a whole read prints, by its category.
-use Rattle.std.proofs.Common.{◌≡◌, ◌≢◌, Option, Some, None, Result, Ok, Err, refl, ap, sym, ◌∙◌, subst, inl, inr}
+use Rattle.std.proofs.Common.{◌≡◌, Option, Some, None, Result, Ok, Err, refl, ap, sym, ◌∙◌, subst, inl, inr}
 use Rattle.token_core.specs.Trees.{TokenStream}
 use Rattle.token_core.specs.Toks.{Toks}
 use Rattle.token_core.specs.Refusal.{Refusal}
 use Rattle.token_core.specs.Stream.{Stream, started}
-use Rattle.token_core.specs.declared.error.ErrorKind.TheVariants.{OutOfMemory}
 use Rattle.token_core.specs.declared.span.Span.{Span}
-use Rattle.token_core.specs.Reads.{Reader, Outcome, Ends, Refuses, WholeRead, Promised, Parsed, Gives, Fails, kept, leaves}
+use Rattle.token_core.specs.Reads.{Reader, Outcome, Ends, Refuses, WholeRead, Promised, Gives, Fails, kept, leaves}
 use Rattle.token_core.specs.Headline.{Grammar, Headline, Lawful, Reprinted, end_of, ended}
 use Rattle.token_core.proofs.Headlines.{heads}
 use Rattle.token_core.specs.Prints.{Print}
@@ -70,7 +69,3 @@ shows-reprints C scope l keeps refuses (Ok s) h =
     let e = ap end_of h.read.1 ∙ ap (ended h.read.0 h.last) h.is in
     (h.read.0, e, keeps h.read.0 e, h.read.2)
 shows-reprints C scope l keeps refuses (Err e) h = λ k. let r = shows-refused C scope l e (h k) in (r, refuses e r)
-
--- a refusal of the read is one of what shows it
-pub shows-err : {A : Type 0} (C : Category A) (s t : Stream) (e : Refusal) (r : Result TokenStream Refusal) → r ≡ Err e → (e.kind ≢ OutOfMemory → C.reader s ≡ Err e) → Parsed (Shows C s) (Fails C.reader s) r t
-shows-err C s t e r q h = rw q h

@@ -12,12 +12,10 @@ use Rattle.token_core.specs.Stream.{Stream, started}
 use Rattle.token_core.specs.Reads.{Ends, Refuses, Reader as R}
 use Rattle.syn_ty.specs.ty.Grammars as types
 use Rattle.syn_ty.specs.ty.Trees as ty
-use Rattle.syn_ty.specs.ty.Printing as printing
 use Rattle.syn_ty.specs.ty.Promises as promises
 use Rattle.syn_generics.specs.generics.Printing as generics_printing
 use Rattle.syn_generics.specs.generics.Promises as generics_promises
 use Rattle.syn_generics.specs.generics.Views as views
-use Rattle.syn_ty.specs.path.Shapes.{as_written}
 use Rattle.syn_ty.specs.declared.generics.CapturedParam as captured
 use Rattle.syn_generics.specs.declared.generics.GenericsOf.{GenericsOf}
 use Rattle.syn_ty.specs.declared.generics.LifetimeParamOf as lifetime
@@ -64,10 +62,6 @@ of_tree_view G view = record { reader = G.reader; print = λ a. G.print (view a)
 -- with the view of a tree as its print
 abbrev pub of_view : {A : Type 0} → Grammar A → (A → Print) → Category A
 of_view G print = record { reader = G.reader; print = print; promise = Headline G; clear = G.spells true; refused = λ l a h v c. h v a c; unique = λ l a b h v c. (h v).unique a c }
-
--- what the arguments of a path print
-abbrev pub shown : {A E : Type 0} → (List A → Print) → Values E → ty.PathArguments A E → Print
-shown pa pe = printing.arguments pa pe as_written
 
 -- what generics print for an implementation
 abbrev pub impl_generics : {A E : Type 0} → (List A → Print) → Values E → GenericsOf A E → Print

@@ -166,7 +166,7 @@ fn read_value(alloc: Global, input: &mut ParseStream<'_>) -> Result<Sample, Erro
     ensures within { Follows input.old input.new }
 {
     let atoms = read_atoms(alloc, input)?;
-    if is_lone_literal(&atoms) & input.is_empty() {
+    if is_lone_literal(&atoms) && input.is_empty() {
         return Err(input.expected(alloc, "`+`"));
     }
     Ok(Sample::Sum(atoms))

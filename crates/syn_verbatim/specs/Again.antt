@@ -1,86 +1,40 @@
 -- The print of what was held is held again, and has the tokens of the list.
-use Rattle.std.specs.Prelude.{◌≡◌, ℕ, zero, suc, List, [], ◌∷◌, ◌++◌, map, refl}
+use Rattle.std.specs.Prelude.{◌≡◌, ℕ, zero, suc, List, [], ◌∷◌, ◌++◌, refl}
 use Rattle.std.proofs.Common.{sym, ◌∙◌, ap, subst, append-nil}
 use Rattle.token_core.specs.declared.span.DelimSpan.{DelimSpan}
 use Rattle.token_core.specs.declared.tree.Delimiter.{Delimiter}
 use Rattle.token_core.specs.declared.tree.Delimiter.TheVariants as d
 use Rattle.token_core.specs.declared.tree.Delimiter.TheVariants.{Bracket}
-use Rattle.token_core.specs.declared.tree.TokenTree.{TokenTree, roll-TokenTree, map-TokenTree}
+use Rattle.token_core.specs.declared.tree.TokenTree.{TokenTree}
 use Rattle.token_core.specs.declared.tree.TokenTree.TheVariants as t
-use Rattle.token_core.specs.declared.tree.TokenTree.TheOpen as o
-use Rattle.token_core.specs.declared.tree.TokenTree.TheFolds.{ind-TokenTree}
-use Rattle.token_core.specs.declared.tree.Group.{Group, roll-Group, map-Group}
 use Rattle.token_core.specs.Cut.{joined}
 use Rattle.token_core.specs.Reads.{sees_group}
 use Rattle.token_core.specs.Rebuilt.{Levels, onto, enclose, invisible, stream_of, Visible, IsVisible}
 use Rattle.token_core.specs.Toks.{Toks, done, word, mark, lit, group, enter, leave}
 use Rattle.token_core.specs.Trees as s
-use Rattle.token_core.specs.Trees.{TokenStream, Before, trees, group_of, stream_of_trees, all, grouped, toks, row}
-use Rattle.token_core.proofs.Flats.{tree-roll, group-roll, stream-roll}
-use Rattle.token_core.proofs.Rebuilds.{stream_of-toks, toks-stream_of, tree-ident, tree-punct, tree-literal, tree-group, stream-trees, visible-tree}
-use Rattle.token_core.proofs.Rows.{row-append, with_each, beside}
+use Rattle.token_core.specs.Trees.{TokenStream, Before, trees, group_of, stream_of_trees, toks, row}
+use Rattle.token_core.proofs.Rebuilds.{whole, group_tree, Cuts, rebuilds, stream_of-toks, toks-stream_of, tree-ident, tree-punct, tree-literal, tree-group, stream-trees, visible-tree}
+use Rattle.token_core.proofs.Rows.{row-append}
 use Rattle.syn_verbatim.specs.Held.{seen, levels, held}
 use Rattle.syn_verbatim.specs.Likes.{Like, like_done, like_word, like_mark, like_lit, like_group, left_enter, left_leave, right_enter, right_leave}
 
 -- ---- the trees of a list are held of its tokens
 
-abbrev before : List TokenTree → Levels → Levels
-before l v = (l ++ v.0, v.1)
+seen-same : (b : Delimiter) → IsVisible b → seen b ≡ b
+seen-same d.Parenthesis h = refl
+seen-same d.Brace h = refl
+seen-same d.Bracket h = refl
+seen-same d.None h = absurd h
 
-abbrev Rebuilds : TokenStream → Type 0
-Rebuilds c = (r : Toks) → levels (s.stream c r) ≡ before (trees c) (levels r)
-
-whole : (c : TokenStream) → stream_of_trees (trees c ++ []) ≡ c
-whole c = append-nil c
-
-abbrev group_tree : Delimiter → DelimSpan → TokenStream → TokenTree
-group_tree b p c = t.Group (group_of b c p)
-
-rebuilds_group : (b : Delimiter) (p : DelimSpan) (c : TokenStream) (r : Toks) → Rebuilds c → levels (grouped b p (s.stream c) r) ≡ onto (group_tree b p c) (levels r)
-rebuilds_group d.Parenthesis p c r h = ap (λ z. onto (group_tree d.Parenthesis p z) (levels r)) (stream_of-toks c)
-rebuilds_group d.Brace p c r h = ap (λ z. onto (group_tree d.Brace p z) (levels r)) (stream_of-toks c)
-rebuilds_group d.Bracket p c r h = ap (λ z. onto (group_tree d.Bracket p z) (levels r)) (stream_of-toks c)
-rebuilds_group d.None p c r h = ap (enclose p) (h (leave r)) ∙ ap (λ z. onto (group_tree d.None p z) (levels r)) (whole c)
-
-module _ where
-  abbrev P : TokenTree → Type 0
-  P x = (r : Toks) → levels (s.tree x r) ≡ onto x (levels r)
-
-  abbrev Q : Group → Type 0
-  Q g = (r : Toks) → levels (s.inside g r) ≡ onto (t.Group g) (levels r)
-
-  abbrev A : Type 0
-  A = (x : TokenTree) × P x
-
-  abbrev B : Type 0
-  B = (g : Group) × Q g
-
-  abbrev trees_of : List A → TokenStream
-  trees_of l = map (λ (a : A). a.0) l
-
-  rebuilds_all : (l : List A) (r : Toks) → levels (all (map s.tree (trees_of l)) r) ≡ before (trees_of l) (levels r)
-  rebuilds_all [] r = refl
-  rebuilds_all (a ∷ l) r = a.1 (all (map s.tree (trees_of l)) r) ∙ ap (onto a.0) (rebuilds_all l r)
-
-  rebuilds_content : (l : List A) → Rebuilds (trees_of l)
-  rebuilds_content l = λ r. ap (λ f. levels (f r)) (stream-roll (trees_of l)) ∙ rebuilds_all l r
-
-  tree_layer : (y : o.TokenTree-F A B) → P (roll-TokenTree (map-TokenTree A B TokenTree Group (λ a. a.0) (λ b. b.0) y))
-  tree_layer (o.Ident i) = λ r. ap (λ f. levels (f r)) (tree-roll (o.Ident i)) ∙ ap (λ z. onto z (levels r)) (sym (t.rolls-Ident i))
-  tree_layer (o.Punct p) = λ r. ap (λ f. levels (f r)) (tree-roll (o.Punct p)) ∙ ap (λ z. onto z (levels r)) (sym (t.rolls-Punct p))
-  tree_layer (o.Literal l) = λ r. ap (λ f. levels (f r)) (tree-roll (o.Literal l)) ∙ ap (λ z. onto z (levels r)) (sym (t.rolls-Literal l))
-  tree_layer (o.Group g) = λ r. ap (λ f. levels (f r)) (tree-roll (o.Group g.0)) ∙ g.1 r ∙ ap (λ z. onto z (levels r)) (sym (t.rolls-Group g.0))
-
-  group_layer : (y : o.Group-F A B) → Q (roll-Group (map-Group A B TokenTree Group (λ a. a.0) (λ b. b.0) y))
-  group_layer y = λ r.
-      let c = trees_of y.content.0 in
-      ap (λ f. levels (f r)) (group-roll (record { content = (c, y.content.1); span = y.span })) ∙ rebuilds_group y.content.1 y.span c r (rebuilds_content y.content.0)
-
-  rebuilds_tree : (x : TokenTree) → P x
-  rebuilds_tree = ind-TokenTree P Q (λ x y is. subst (λ z. P (roll-TokenTree z)) is (tree_layer y)) (λ x y is. subst (λ z. Q (roll-Group z)) is (group_layer y))
-
-  rebuilds : (c : TokenStream) → Rebuilds c
-  rebuilds c = subst Rebuilds (beside P rebuilds_tree c) (rebuilds_content (with_each P rebuilds_tree c))
+cuts : Cuts levels
+cuts = record {
+  of_word = λ i r. refl;
+  of_mark = λ p r. refl;
+  of_lit = λ l r. refl;
+  of_group = λ b p c r v h. ap (λ z. onto (t.Group (group_of z (stream_of (toks c)) p)) (levels r)) (seen-same b v) ∙ ap (λ z. onto (group_tree b p z) (levels r)) (stream_of-toks c);
+  of_enter = λ p r. refl;
+  of_leave = λ r. refl;
+}
 
 -- what is printed of a list of trees is that list
 pub held-toks : (c : TokenStream) → stream_of_trees (held (row (trees c) done)) ≡ c
@@ -88,7 +42,7 @@ unfolding held
 held-toks c =
     let e : s.stream c done ≡ row (trees c) done = stream-trees c done in
     ap (λ z. stream_of_trees ((levels z).0 ++ joined (levels z).1)) (sym e)
-    ∙ ap (λ (v : Levels). stream_of_trees (v.0 ++ joined v.1)) (rebuilds c done)
+    ∙ ap (λ (v : Levels). stream_of_trees (v.0 ++ joined v.1)) (rebuilds levels cuts c done)
     ∙ append-nil (c ++ []) ∙ whole c
 
 -- ---- the print has the tokens of the list
@@ -171,12 +125,6 @@ no_levels (lit x k) h = no_levels k h
 no_levels (group b p c k) h = no_levels k h.2
 no_levels (enter p k) h = absurd h
 no_levels (leave k) h = absurd h
-
-seen-same : (b : Delimiter) → IsVisible b → seen b ≡ b
-seen-same d.Parenthesis h = refl
-seen-same d.Brace h = refl
-seen-same d.Bracket h = refl
-seen-same d.None h = absurd h
 
 row-levels : (l : Toks) → Visible l → row (levels l).0 done ≡ l
 row-levels done v = refl

@@ -192,5 +192,3 @@ ahead (leave k) = refl
 pub begins-attribute : (l : Toks) → (token.sees_pound l && second (sees_group Bracket) l) ≡ attribute_ahead (front l)
 unfolding sees_mark after_one
 begins-attribute l = ahead (front l)
-
-pub ruleset begun = (begins-attribute)

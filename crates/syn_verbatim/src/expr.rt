@@ -40,11 +40,10 @@ fn is_lone_literal(alloc: Global, input: &ParseStream<'_>) -> Result<bool, Error
 }
 
 /// Whether an attribute is at the front: `#` and brackets.
-#[tactic(auto, using(crate::specs::Likes::begun))]
 fn begins_attribute(input: &ParseStream<'_>) -> bool
     ensures { result ≡ attribute_ahead (front input.now.rest) }
 {
-    input.peek::<Pound>() & input.peek2::<Bracket>()
+    input.peek::<Pound>() && input.peek2::<Bracket>()
 }
 
 /// Whether what is left may be the value of an attribute.
@@ -52,7 +51,7 @@ fn is_value(alloc: Global, input: &ParseStream<'_>) -> Result<bool, Error>
     ensures { Reads (peek spelling.is_value input.now) result input.now }
 {
     let lone = is_lone_literal(alloc, input)?;
-    Ok(!input.is_empty() & (!lone & !begins_attribute(input)))
+    Ok(!input.is_empty() && (!lone && !begins_attribute(input)))
 }
 
 /// Whether what is left may stand in this place.

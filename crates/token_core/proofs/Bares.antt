@@ -3,11 +3,10 @@ use Rattle.std.specs.Prelude.{Decides}
 use Rattle.std.specs.Str.{bytes_eq}
 use Rattle.std.proofs.lemmas.Slice.Eq.{bytes_eq-Decides}
 use Rattle.std.proofs.Math.ListN.{length-map}
-use Rattle.std.proofs.lemmas.List.{map_more}
 use Rattle.token_core.specs.declared.tree.Spacing.{Spacing}
 use Rattle.token_core.specs.declared.tree.LitKind.{LitKind}
 use Rattle.token_core.specs.Toks.{Bytes}
-use Rattle.std.proofs.Common.{◌≡◌, ℕ, Option, Some, None, zero, suc, ◌+◌, ◌<◌, Bool, true, false, List, [], ◌∷◌, ◌++◌, map, length, take, get_or, refl, sym, ap, ◌∙◌, arith}
+use Rattle.std.proofs.Common.{◌≡◌, ℕ, Option, Some, None, zero, suc, ◌<◌, Bool, true, false, List, [], ◌∷◌, map, length, get_or, refl, sym, ap, ◌∙◌, arith}
 use Rattle.token_core.specs.declared.tree.Ident.{Ident}
 use Rattle.token_core.specs.declared.tree.Punct.{Punct}
 use Rattle.token_core.specs.declared.tree.Literal.{Literal}
@@ -223,12 +222,6 @@ other_tree a b xs ys i j x y m n o h p q d = (
   (λ e. absurd (cc)),
   (λ e. d.1 (bare_at xs ys i x y (ap (map bare_tree) m ∙ bare_trees a b e ∙ ap (map bare_tree) (sym n)) h p (q ∙ ap (λ k. get_or ys k y) o))),
 )
-
-pub more_same : (xs ys : List TokenTree) (i : ℕ) (x y : TokenTree) → i < length xs → i < length ys → x ≡ get_or xs i x → y ≡ get_or ys i y → map bare_tree (take i xs) ≡ map bare_tree (take i ys) → bare_tree x ≡ bare_tree y →
-    map bare_tree (take (i + 1) xs) ≡ map bare_tree (take (i + 1) ys)
-more_same xs ys i x y h k p q e f =
-    map_more bare_tree xs i x h ∙ ap (λ z. z ++ bare_tree (get_or xs i x) ∷ []) e
-    ∙ ap (λ z. map bare_tree (take i ys) ++ z ∷ []) (ap bare_tree (sym p) ∙ f ∙ ap bare_tree q) ∙ sym (map_more bare_tree ys i y k)
 
 pub all_same : (a b : TokenStream) → map bare_tree (trees a) ≡ map bare_tree (trees b) → Decides true (bare_stream a ≡ bare_stream b)
 all_same a b e = ((λ h. bare_stream_is a ∙ e ∙ sym (bare_stream_is b)), (λ h. refl))

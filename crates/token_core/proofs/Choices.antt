@@ -8,11 +8,8 @@ use Rattle.std.proofs.lemmas.Cmp.{nat_eq_equiv}
 use Rattle.std.proofs.lemmas.Map.Keys.{IsDistinct-push}
 use Rattle.std.proofs.lemmas.Map.Steps.{length-le_from_distinct_below}
 use Rattle.token_core.specs.Toks.{Bytes}
-use Rattle.token_core.specs.declared.error.ErrorKind.TheVariants.{Expected}
-use Rattle.token_core.specs.Stream.{Stream}
-use Rattle.token_core.specs.Reads.{refused}
 use Rattle.token_core.specs.TokenNames.{name_of, token_count}
-use Rattle.token_core.specs.Looks.{commas, Known, is_noted, choices, unmet_at}
+use Rattle.token_core.specs.Looks.{commas, Known, is_noted, choices}
 
 commas_last : (ns : List Bytes) (n : Bytes) → commas (ns ++ n ∷ []) ≡ commas ns ++ (codes ", " ++ n)
 commas_last [] n = ap (λ z. codes ", " ++ z) (append-nil n)
@@ -76,15 +73,5 @@ has_place ns i n f k h e =
     let m = known_more (take i ns) n k h e in
     let l : length (take i ns ++ n ∷ []) ≤ token_count = length-le_from_distinct_below _ token_count m.0 (below_all _ m.1) in
     omega (arith, l, length-append (take i ns) (n ∷ []), length-take-le i ns f)
-
--- no name is told
-pub unmet_none : (ns : List Bytes) (s : Stream) → length ns ≡ 0 → unmet_at [] s ≡ unmet_at ns s
-unmet_none [] s h = refl
-unmet_none (n ∷ ns) s h = absurd (omega (arith, h))
-
--- a name is told
-pub unmet_is : (ns : List Bytes) (s : Stream) → (length ns ≡ 0 → ⊥) → unmet_at ns s ≡ refused Expected (choices ns) s
-unmet_is [] s h = absurd (h refl)
-unmet_is (n ∷ ns) s h = refl
 
 pub ruleset commaed = (commas_more, append_assoc)

@@ -30,7 +30,7 @@ row_is : (l : List TokenTree) → items (row l done) ≡ row_items l
 row_is [] = refl
 row_is (x ∷ l) = adds_tree x (row l done) ∙ ap (λ z. tree_items x ++ z) (row_is l)
 
-stream_items : (l : List TokenTree) → items (toks (stream_of_trees l)) ≡ row_items l
+pub stream_items : (l : List TokenTree) → items (toks (stream_of_trees l)) ≡ row_items l
 stream_items l = ap items (ap (λ f. f done) (stream-roll l)) ∙ row_is l
 
 whole : (c : TokenStream) → stream_of_trees (trees c ++ []) ≡ c

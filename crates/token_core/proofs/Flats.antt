@@ -276,7 +276,3 @@ flat_tree_is t = ap flat_tree (sym (roll-out-TokenTree t)) ∙ flat-tree-roll (o
 
 pub flat_group_is : (g : Group) → flat_group g ≡ group_flat (delimiter_of g) (span_of g) (content_of g)
 flat_group_is g = ap flat_group (sym (roll-out-Group g)) ∙ flat-group-roll (out-Group g)
-
--- the entries of a tree, and others after them, show the tree and then those
-pub view-tree : (t : TokenTree) (l : Flat) → view (tree_flat (out-TokenTree t) ++ l) ≡ s.tree t (view l)
-view-tree t l = ap (λ x. view (x ++ l)) (sym (flat_tree_is t)) ∙ shows_tree t l

@@ -9,15 +9,15 @@ use Rattle.token_core.specs.Fronted.{Fronting, FrontAgain, Begun, Fronted, Front
 use Rattle.token_core.proofs.Turns.{same_pair}
 
 module _ {A : Type 0} (F : Fronting A) (laws : FrontLaws F) where
-  again : (a : A) (l r k : Toks) → F.begins false a l r → Visible l → F.grammar.plain a → Visible k → F.follows k ≡ true → FrontAgain F a k
+  again : (a : A) (l r k : Toks) → F.begins false a l r → Visible l → F.plain a k → Visible k → F.follows k ≡ true → FrontAgain F a k
   again a l r k i u p v o =
       let spells = laws.spells a l r k i p o in
       let visible = laws.visible a l r k i u p v o in
       record {
         spells = spells;
         visible = visible;
-        stays = laws.stays a l r i p;
-        same = laws.same a l r i p;
+        stays = laws.stays a l r k i p;
+        same = laws.same a l r k i p;
         again = λ s n e. laws.complete s (F.grammar.normal a) k n (subst Visible (sym e) visible) (subst (λ m. F.begins true (F.grammar.normal a) m k) (sym e) spells) o;
       }
 
@@ -35,7 +35,7 @@ module _ {A : Type 0} (F : Fronting A) (laws : FrontLaws F) where
         visible = h.0;
         sound = h.1;
         unique = λ b k i o. let u = one s t a b k n v e i o in (u.0, u.1);
-        reprint = λ f p k u o. again a s.rest t.rest k (h.1 f) v p u o;
+        reprint = λ f k p u o. again a s.rest t.rest k (h.1 f) v p u o;
       }
 
   refused : (s : Stream) (b : A) (e : Refusal) (k : Toks) → s.left ≡ None → Visible s.rest → F.grammar.reader s ≡ Err e → F.begins true b s.rest k → F.follows k ≡ true → ⊥

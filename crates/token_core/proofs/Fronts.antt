@@ -1,6 +1,6 @@
 -- Entries at a place of a buffer, and the tokens that they show.
-use Rattle.std.proofs.Common.{◌≡◌, ℕ, zero, suc, ◌+◌, ◌<◌, ◌≤◌, true, false, List, [], ◌∷◌, ◌++◌, map, length, get_or, take, drop, sym, ◌∙◌, ap, refl, subst, arith}
-use Rattle.std.proofs.lemmas.List.{drop_more, take-map, drop-map, length-take, length-append}
+use Rattle.std.proofs.Common.{◌≡◌, ℕ, zero, suc, ◌+◌, ◌<◌, ◌≤◌, true, false, List, [], ◌∷◌, ◌++◌, map, length, get_or, take, drop, sym, ◌∙◌, ap, refl, subst}
+use Rattle.std.proofs.lemmas.List.{drop_more, take-map, drop-map}
 use Rattle.std.proofs.Math.ListN.{drop_of_length-le}
 use Rattle.token_core.specs.declared.class.Entry.{Entry}
 use Rattle.token_core.specs.declared.tree.Delimiter.{Delimiter}
@@ -108,9 +108,6 @@ take_less (suc n) (x ∷ l) = ap (λ k. x ∷ k) (take_less n l)
 
 pub inside_taken : (c : TokenStream) (n : ℕ) (l : List Seen) → Inside c n l → take n l ≡ flat_stream c
 inside_taken c n l i = sym (take_less n l) ∙ ap (take n) i.1 ∙ ap (λ m. take m (flat_stream c ++ saw_leave ∷ [])) i.0 ∙ take_whole (flat_stream c) (saw_leave ∷ [])
-
-pub inside_long : (c : TokenStream) (n : ℕ) (l : List Seen) → Inside c n l → suc n ≤ length l
-inside_long c n l i = omega (arith, i.0, ap length i.1, length-take (suc n) l, length-append (flat_stream c) (saw_leave ∷ []))
 
 -- ---- a visible group at the front of a buffer
 

@@ -84,9 +84,6 @@ module _ where
 -- ---- the entries of the group
 
 module _ (p : DelimSpan) (c : TokenStream) (n : ℕ) where
-  after : List Seen → List Seen
-  after l = drop (n + 1) l
-
   parts : (l : List Seen) → Inside c n l → view l ≡ s.stream c (leave (view (drop (n + 1) l)))
   parts l h =
       let k : suc n ≡ n + 1 = omega arith in

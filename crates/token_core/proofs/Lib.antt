@@ -20,7 +20,6 @@ pub mod Puts
 pub mod Turns
 pub mod Steps
 pub mod Listings
-pub mod Name_lists
 pub mod Headlines
 pub mod Fronteds
 pub mod Took
@@ -36,3 +35,7 @@ pub mod MemberSpells
 pub mod LimitSpells
 pub mod Invisibles
 pub mod Unseen
+pub mod TokenFronts
+pub mod Ends
+pub mod fronts_laws
+pub mod Nestings

@@ -98,3 +98,7 @@ old_limits_visible clear y l r (old_limits {d = d} i) v = mark_visible clear d l
 pub limits_whole : (clear : Bool) (y : RangeLimits) (l r : Toks) → AreLimits clear y l r → Visible r → Visible l
 limits_whole clear y l r (half_open {d = d} i) v = mark_whole clear d l r i v
 limits_whole clear y l r (closed {d = d} i) v = mark_whole clear d l r i v
+
+pub old_limits_whole : (clear : Bool) (y : RangeLimits) (l r : Toks) → AreOldLimits clear y l r → Visible r → Visible l
+old_limits_whole clear y l r (new_limits i) v = limits_whole clear y l r i v
+old_limits_whole clear y l r (old_limits {d = d} i) v = mark_whole clear d l r i v

@@ -133,6 +133,20 @@ module _ {n k : ℕ} (fits : length (chars_of n) ≡ k) (short : k ≤ 3) where
       let same : mark_at n k c.spans ≡ m = sym (mark_is c.spans false (chars_of n) s.rest t.rest c.spelt) ∙ ap (mark_of n k) c.are ∙ y.is in
       record { spelt = subst (λ z. IsMark false z s.rest t.rest) same (is_mark c.spelt); left = w.left }
 
+module _ (clear : Bool) (all : List ℕ) where
+  chars_visible : (cs : List ℕ) (ss : List Span) (l r : Toks) → AreChars clear all cs ss l r → Visible l → Visible r
+  chars_visible cs ss l r no_char v = v
+  chars_visible cs ss l r (last_char x) v = v
+  chars_visible cs ss l r (more_chars {d = d} {cs = ds} {ss = ts} {l = m} x) v = chars_visible (d ∷ ds) ts m r x v
+
+-- a read of a mark leaves what is visible, of any number of characters
+pub mark_rest : {n k : ℕ} (s t : Stream) (m : Mark n k) → Visible s.rest → read n k s ≡ Ok (m, t) → Visible t.rest
+mark_rest {n} {k} s t m v e =
+    let y = mapped (read_mark (chars_of n) (mark_name n) s) (mark_of n k) m t e in
+    let w = went (chars_of n) (mark_name n) s t y.value y.was in
+    let c = chars_at (chars_of n) (chars_of n) s.rest (y.value, t.rest) v w.was in
+    chars_visible false (chars_of n) (chars_of n) c.spans s.rest t.rest c.spelt v
+
 -- ---- complete
 
 put_some : (a : Span) (x : Spans) (r : Toks) (o : Option (Spans × Toks)) → o ≡ Some (x, r) → put_first a o ≡ Some (three a x.first x.second, r)
@@ -206,11 +220,6 @@ module _ {n k : ℕ} where
   mark_print m h e = is_mark (chars_print (chars_of n) (chars_of n) m.spans h e)
 
 module _ (clear : Bool) (all : List ℕ) where
-  chars_visible : (cs : List ℕ) (ss : List Span) (l r : Toks) → AreChars clear all cs ss l r → Visible l → Visible r
-  chars_visible cs ss l r no_char v = v
-  chars_visible cs ss l r (last_char x) v = v
-  chars_visible cs ss l r (more_chars {d = d} {cs = ds} {ss = ts} {l = m} x) v = chars_visible (d ∷ ds) ts m r x v
-
   chars_whole : (cs : List ℕ) (ss : List Span) (l r : Toks) → AreChars clear all cs ss l r → Visible r → Visible l
   chars_whole cs ss l r no_char v = v
   chars_whole cs ss l r (last_char x) v = v

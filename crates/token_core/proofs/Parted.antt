@@ -1,6 +1,6 @@
 -- Values and marks gone through by their places: what is left before and after a turn, and at the end.
 use Rattle.std.specs.Prelude.{slice_get}
-use Rattle.std.proofs.Common.{◌≡◌, ℕ, zero, suc, ◌+◌, ◌<◌, ◌≤◌, List, [], ◌∷◌, ◌++◌, Option, Some, None, option_map, Bor, get_or, length, drop, refl, sym, ap, ◌∙◌, append-nil, append_assoc, arith}
+use Rattle.std.proofs.Common.{◌≡◌, ℕ, zero, suc, ◌+◌, ◌<◌, List, [], ◌∷◌, ◌++◌, Option, Some, None, option_map, Bor, get_or, length, drop, refl, sym, ap, ◌∙◌, append_assoc, arith}
 use Rattle.std.proofs.lemmas.List.{drop_all}
 use Rattle.token_core.specs.Lists.{joined}
 use Rattle.token_core.specs.Prints.{optional}
@@ -68,7 +68,3 @@ module _ {T P A : Type 0} (f : T → List A) (g : P → List A) (vs : List T) (m
       ap (λ z. z ++ rest) (n ∙ ap (λ z. between ++ z) (lent g o) ∙ ap (λ z. z ++ mark) b)
       ∙ append_assoc (mid ++ f x) mark rest ∙ append_assoc mid (f x) (mark ++ rest)
       ∙ ap (λ z. mid ++ z) (sym (joined_next i x (option_map (λ m. m.now) o) h e k)) ∙ told
-
-  -- after the last value
-  pub put_end : (i : ℕ) (mid whole : List A) → length vs ≤ i → mid ++ joined f g (drop i vs) (drop i ms) ≡ whole → mid ≡ whole
-  put_end i mid whole h told = sym (append-nil mid) ∙ ap (λ z. mid ++ joined f g z (drop i ms)) (sym (drop_all i vs h)) ∙ told

@@ -1,6 +1,6 @@
 -- Positions: the tree that stands there, what is left of the buffer, and their order.
 use Rattle.std.proofs.Common.{◌≡◌, ◌⊎◌, inl, inr, ℕ, suc, ◌+◌, ◌-◌, ◌<◌, ◌≤◌, true, false, Some, List, [], ◌∷◌, ◌++◌, map, length, take, drop, refl, sym, ◌∙◌, ap, subst, append_assoc, append-nil, arith}
-use Rattle.std.proofs.lemmas.Bool.{ltb-true, ltb-false, lt-ltb}
+use Rattle.std.proofs.lemmas.Bool.{ltb-true, ltb-false}
 use Rattle.std.proofs.lemmas.List.{length-append, drop-map, take_rest}
 use Rattle.token_core.specs.declared.tree.Delimiter.{Delimiter}
 use Rattle.token_core.specs.declared.tree.Delimiter.TheVariants as d
@@ -180,23 +180,6 @@ pub reached_of : (a b w : List Item) → IsReached a w → IsReached b w → len
 reached_of a b w there q h = same_length b w q h
 reached_of a b w (past {l = l} x p) there h = past x p
 reached_of a b w (past {l = l} x p) (past y q) h = reached_of a b l p q h
-
-ahead : (a b : List Item) → IsReached b a → (a ≡ b → ⊥) → length b < length a
-ahead a b there n = absurd (n refl)
-ahead a b (past {l = l} x p) n = let h = reached_shorter b l p in omega (arith, h)
-
--- Of two positions of one buffer, one stands before the other exactly if the other is a different one that is reached from it.
-module _ (a b w : List Item) (p : IsReached a w) (q : IsReached b w) where
-  pub before_reached : is_before a b ≡ true → IsReached b a × (a ≡ b → ⊥)
-  before_reached h =
-      let n = ltb-true (length b) (length a) h in
-      (reached_of b a w q p (omega (arith, n)), λ e. let k : length a ≡ length b = ap length e in absurd (omega (arith, n, k)))
-
-  pub not_before : is_before a b ≡ false → IsReached a b
-  not_before h = let n = ltb-false (length b) (length a) h in reached_of a b w p q n
-
-pub reached_before : (a b : List Item) → IsReached b a → (a ≡ b → ⊥) → is_before a b ≡ true
-reached_before a b p n = lt-ltb (length b) (length a) (ahead a b p n)
 
 -- fewer tokens are left, and fewer items
 pub record Fewer (a b : Toks) : Type 0 where

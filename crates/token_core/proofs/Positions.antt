@@ -15,7 +15,7 @@ use Rattle.token_core.specs.declared.tree.TokenTree.TheFolds.{ind-TokenTree}
 use Rattle.token_core.specs.declared.tree.Group.{Group, roll-Group, map-Group, roll-out-Group}
 use Rattle.token_core.specs.Toks.{Toks, done, word, mark, lit, group, leave}
 use Rattle.token_core.specs.Trees as s
-use Rattle.token_core.specs.Trees.{TokenStream, Before, all, grouped, toks, group_of, delimiter_of, span_of, content_of, row}
+use Rattle.token_core.specs.Trees.{TokenStream, Before, all, grouped, toks, group_of, delimiter_of, span_of, content_of}
 use Rattle.token_core.specs.Seen.{view, saw_word, saw_mark, saw_lit, saw_group, saw_enter, saw_leave, saw_delimiter, view-nil, view-word, view-mark, view-lit, view-group, view-enter, view-leave}
 use Rattle.token_core.specs.Entries.{Flat, saw, entries_view, Nested, Inside, flat_stream}
 use Rattle.token_core.specs.Positions.{an_ident, a_punct, a_literal, a_beginning, an_end, items, item, tree_items, entries_items}

@@ -13,37 +13,43 @@ use Rattle.token_core.specs.declared.tree.TokenTree.TheFolds.{ind-TokenTree}
 use Rattle.token_core.specs.declared.tree.Group.{Group, roll-Group, map-Group}
 use Rattle.token_core.specs.Toks.{Toks, done, word, mark, lit, group, enter, leave}
 use Rattle.token_core.specs.Trees as s
-use Rattle.token_core.specs.Trees.{TokenStream, Before, trees, group_of, stream_of_trees, all, grouped, toks, row}
+use Rattle.token_core.specs.Trees.{TokenStream, trees, group_of, stream_of_trees, all, grouped, toks, row}
 use Rattle.token_core.specs.Rebuilt.{Levels, onto, enclose, levels, stream_of, Visible, IsVisible}
 use Rattle.token_core.proofs.Flats.{tree-roll, group-roll, stream-roll}
 use Rattle.token_core.proofs.Rows.{with_each, beside}
 
-abbrev before : List TokenTree → Levels → Levels
+abbrev pub before : List TokenTree → Levels → Levels
 before l v = (l ++ v.0, v.1)
 
-abbrev Rebuilds : TokenStream → Type 0
-Rebuilds c = (r : Toks) → levels (s.stream c r) ≡ before (trees c) (levels r)
+pub whole : (c : TokenStream) → stream_of_trees (trees c ++ []) ≡ c
+whole c = append-nil c
+
+abbrev pub group_tree : Delimiter → DelimSpan → TokenStream → TokenTree
+group_tree d p c = t.Group (group_of d c p)
 
 -- ---- a list's tokens have its trees as their levels
 
-whole : (c : TokenStream) → stream_of_trees (trees c ++ []) ≡ c
-whole c = append-nil c
+-- what cuts tokens into levels, tree by tree
+pub record Cuts (levels : Toks → Levels) : Type 0 where
+  pub of_word : (i : Ident) (r : Toks) → levels (word i r) ≡ onto (t.Ident i) (levels r)
+  pub of_mark : (p : Punct) (r : Toks) → levels (mark p r) ≡ onto (t.Punct p) (levels r)
+  pub of_lit : (l : Literal) (r : Toks) → levels (lit l r) ≡ onto (t.Literal l) (levels r)
+  pub of_group : (d : Delimiter) (p : DelimSpan) (c : TokenStream) (r : Toks) → IsVisible d → levels (toks c) ≡ before (trees c) (levels done) → levels (group d p (toks c) r) ≡ onto (group_tree d p c) (levels r)
+  pub of_enter : (p : DelimSpan) (r : Toks) → levels (enter p r) ≡ enclose p (levels r)
+  pub of_leave : (r : Toks) → levels (leave r) ≡ ([], (levels r).0 ∷ (levels r).1)
 
-abbrev group_tree : Delimiter → DelimSpan → TokenStream → TokenTree
-group_tree d p c = t.Group (group_of d c p)
+module _ (levels : Toks → Levels) (cuts : Cuts levels) where
+  abbrev Rebuilds : TokenStream → Type 0
+  Rebuilds c = (r : Toks) → levels (s.stream c r) ≡ before (trees c) (levels r)
 
-rebuilds_visible : (d : Delimiter) (p : DelimSpan) (c : TokenStream) (r : Toks) → Rebuilds c → levels (group d p (toks c) r) ≡ onto (group_tree d p c) (levels r)
-rebuilds_visible d p c r h =
-    ap (λ (v : Levels). onto (group_tree d p (stream_of_trees v.0)) (levels r)) (h done)
-    ∙ ap (λ z. onto (group_tree d p z) (levels r)) (whole c)
+  rebuilds_group : (d : Delimiter) (p : DelimSpan) (c : TokenStream) (r : Toks) → Rebuilds c → levels (grouped d p (s.stream c) r) ≡ onto (group_tree d p c) (levels r)
+  rebuilds_group Parenthesis p c r h = cuts.of_group Parenthesis p c r tt (h done)
+  rebuilds_group Brace p c r h = cuts.of_group Brace p c r tt (h done)
+  rebuilds_group Bracket p c r h = cuts.of_group Bracket p c r tt (h done)
+  rebuilds_group None p c r h =
+      cuts.of_enter p (s.stream c (leave r)) ∙ ap (enclose p) (h (leave r)) ∙ ap (λ v. enclose p (before (trees c) v)) (cuts.of_leave r)
+      ∙ ap (λ z. onto (group_tree None p z) (levels r)) (whole c)
 
-rebuilds_group : (d : Delimiter) (p : DelimSpan) (c : TokenStream) (r : Toks) → Rebuilds c → levels (grouped d p (s.stream c) r) ≡ onto (group_tree d p c) (levels r)
-rebuilds_group Parenthesis p c r h = rebuilds_visible Parenthesis p c r h
-rebuilds_group Brace p c r h = rebuilds_visible Brace p c r h
-rebuilds_group Bracket p c r h = rebuilds_visible Bracket p c r h
-rebuilds_group None p c r h = ap (enclose p) (h (leave r)) ∙ ap (λ z. onto (group_tree None p z) (levels r)) (whole c)
-
-module _ where
   abbrev P : TokenTree → Type 0
   P x = (r : Toks) → levels (s.tree x r) ≡ onto x (levels r)
 
@@ -67,9 +73,9 @@ module _ where
   rebuilds_content l = λ r. ap (λ f. levels (f r)) (stream-roll (trees_of l)) ∙ rebuilds_all l r
 
   tree_layer : (y : o.TokenTree-F A B) → P (roll-TokenTree (map-TokenTree A B TokenTree Group (λ a. a.0) (λ b. b.0) y))
-  tree_layer (o.Ident i) = λ r. ap (λ f. levels (f r)) (tree-roll (o.Ident i)) ∙ ap (λ z. onto z (levels r)) (sym (t.rolls-Ident i))
-  tree_layer (o.Punct p) = λ r. ap (λ f. levels (f r)) (tree-roll (o.Punct p)) ∙ ap (λ z. onto z (levels r)) (sym (t.rolls-Punct p))
-  tree_layer (o.Literal l) = λ r. ap (λ f. levels (f r)) (tree-roll (o.Literal l)) ∙ ap (λ z. onto z (levels r)) (sym (t.rolls-Literal l))
+  tree_layer (o.Ident i) = λ r. ap (λ f. levels (f r)) (tree-roll (o.Ident i)) ∙ cuts.of_word i r ∙ ap (λ z. onto z (levels r)) (sym (t.rolls-Ident i))
+  tree_layer (o.Punct p) = λ r. ap (λ f. levels (f r)) (tree-roll (o.Punct p)) ∙ cuts.of_mark p r ∙ ap (λ z. onto z (levels r)) (sym (t.rolls-Punct p))
+  tree_layer (o.Literal l) = λ r. ap (λ f. levels (f r)) (tree-roll (o.Literal l)) ∙ cuts.of_lit l r ∙ ap (λ z. onto z (levels r)) (sym (t.rolls-Literal l))
   tree_layer (o.Group g) = λ r. ap (λ f. levels (f r)) (tree-roll (o.Group g.0)) ∙ g.1 r ∙ ap (λ z. onto z (levels r)) (sym (t.rolls-Group g.0))
 
   group_layer : (y : o.Group-F A B) → Q (roll-Group (map-Group A B TokenTree Group (λ a. a.0) (λ b. b.0) y))
@@ -80,12 +86,22 @@ module _ where
   rebuilds_tree : (x : TokenTree) → P x
   rebuilds_tree = ind-TokenTree P Q (λ x y is. subst (λ z. P (roll-TokenTree z)) is (tree_layer y)) (λ x y is. subst (λ z. Q (roll-Group z)) is (group_layer y))
 
-  rebuilds : (c : TokenStream) → Rebuilds c
+  pub rebuilds : (c : TokenStream) (r : Toks) → levels (s.stream c r) ≡ before (trees c) (levels r)
   rebuilds c = subst Rebuilds (beside P rebuilds_tree c) (rebuilds_content (with_each P rebuilds_tree c))
+
+cuts : Cuts levels
+cuts = record {
+  of_word = λ i r. refl;
+  of_mark = λ p r. refl;
+  of_lit = λ l r. refl;
+  of_group = λ d p c r v h. ap (λ (v : Levels). onto (group_tree d p (stream_of_trees v.0)) (levels r)) h ∙ ap (λ z. onto (group_tree d p z) (levels r)) (whole c);
+  of_enter = λ p r. refl;
+  of_leave = λ r. refl;
+}
 
 pub stream_of-toks : (c : TokenStream) → stream_of (toks c) ≡ c
 unfolding stream_of
-stream_of-toks c = ap (λ (v : Levels). stream_of_trees v.0) (rebuilds c done) ∙ whole c
+stream_of-toks c = ap (λ (v : Levels). stream_of_trees v.0) (rebuilds levels cuts c done) ∙ whole c
 
 -- ---- the tokens of each kind of tree
 

@@ -1,5 +1,5 @@
 -- What tests see of classes is what they are defined to see.
-use Rattle.std.proofs.Common.{◌≡◌, ℕ, zero, suc, ◌+◌, ◌<◌, Bool, true, false, not, ◌&&◌, ◌||◌, ◌==◌, List, [], ◌∷◌, ◌++◌, Option, Some, None, Ok, Err, is_some, if◌then◌else◌, refl, sym, ap, ap₂, ◌∙◌, nat_eq, inl, inr, length, map, drop, get_or, codes, arith}
+use Rattle.std.proofs.Common.{◌≡◌, ℕ, zero, suc, ◌+◌, ◌<◌, ◌≤◌, Bool, true, false, not, ◌&&◌, ◌||◌, ◌==◌, List, [], ◌∷◌, ◌++◌, Option, Some, None, Ok, Err, is_some, if◌then◌else◌, refl, sym, ap, ap₂, ◌∙◌, nat_eq, nat_lt, inl, inr, length, map, drop, get_or, arith}
 use Rattle.std.specs.Str.{bytes_eq}
 use Rattle.std.proofs.lemmas.Bool.{cases_Bool, false≢true}
 use Rattle.std.proofs.lemmas.Slice.Eq.{bytes_eq-Decides}
@@ -13,7 +13,7 @@ use Rattle.token_core.specs.declared.tree.Delimiter.{Delimiter}
 use Rattle.token_core.specs.Toks.{Bytes, Toks, done, word, mark, lit, group, enter, leave}
 use Rattle.token_core.specs.Seen.{Seen, view, saw_word, saw_mark, saw_lit, saw_group, saw_enter, saw_leave, saw_delimiter, view-nil, view-word, view-mark, view-lit, view-group, view-enter, view-leave}
 use Rattle.token_core.specs.Front.{front, settled}
-use Rattle.token_core.specs.Keywords.{keywords, words, word_count, is_one_of, is_keyword}
+use Rattle.token_core.specs.Keywords.{keywords, keyword_count, weak_keywords, words, word_count, is_one_of, is_keyword}
 use Rattle.token_core.specs.Classes.{numbered, among, word_number, builtin_number, true_number, false_number, is_raw, classed, text_class, layer_class, class_of, is_end}
 use Rattle.token_core.specs.Reads as reads
 use Rattle.token_core.specs.Reads.{past, next_word, word_past, word_if, as_word, as_punct, as_group, as_lit, word_meets, group_meets, sees_word, sees_mark, sees_group, any_text, is_text, past_mark, past_next, put_first, is_last, is_joint, after_one, is_done}
@@ -85,6 +85,12 @@ eq_less a b h = grind (arith, h)
 eq_more : (a b : ℕ) → b < a → nat_eq a b ≡ false
 eq_more a b h = grind (arith, h)
 
+less : (a b : ℕ) → a < b → nat_lt a b ≡ true
+less a b h = grind (arith, h)
+
+not_less : (a b : ℕ) → b ≤ a → nat_lt a b ≡ false
+not_less a b h = grind (arith, h)
+
 -- an entry that is an end or none
 abbrev seen_as : Bool → Entry → Seen
 seen_as b e = if b then saw_leave else saw_layer e.content (out-TokenTree e.tree.now)
@@ -148,26 +154,27 @@ entry_classed e = e.is ∙ at (is_end e.class)
 -- ---- identifiers
 
 module _ (t : Bytes) where
-  ident_last : (n : ℕ) (b : Bytes) → n ≡ 52 → is_ident (classed (among ((n, b) ∷ []) t) t) ≡ true
-  ident_last n b h = elim (cases_Bool (bytes_eq t b)) [
-    | inl e ↦ ap (λ z. is_ident (classed (if z then Some n else None) t)) e ∙ eq_same n 52 h
-    | inr e ↦ ap (λ z. is_ident (classed (if z then Some n else None) t)) e ∙ plain_is is_ident true refl refl t
+  ident_weak : (n : ℕ) (ws : List Bytes) → keyword_count ≤ n → is_ident (classed (among (numbered n ws) t) t) ≡ true
+  ident_weak n [] h = plain_is is_ident true refl refl t
+  ident_weak n (w ∷ ws) h = elim (cases_Bool (bytes_eq t w)) [
+    | inl e ↦ ap (λ z. is_ident (classed (if z then Some n else among (numbered (n + 1) ws) t) t)) e ∙ ap not (not_less n keyword_count h)
+    | inr e ↦ ap (λ z. is_ident (classed (if z then Some n else among (numbered (n + 1) ws) t) t)) e ∙ ident_weak (n + 1) ws (omega (arith, h))
   ]
 
-  ident_among : (n : ℕ) (ks : List Bytes) (b : Bytes) → n + length ks ≡ 52 → is_ident (classed (among (numbered n (ks ++ b ∷ [])) t) t) ≡ not (is_one_of ks t)
-  ident_among n [] b h = ident_last n b (omega (arith, h))
-  ident_among n (k ∷ ks) b h = elim (cases_Bool (bytes_eq t k)) [
+  ident_among : (n : ℕ) (ks ws : List Bytes) → n + length ks ≡ keyword_count → is_ident (classed (among (numbered n (ks ++ ws)) t) t) ≡ not (is_one_of ks t)
+  ident_among n [] ws h = ident_weak n ws (omega (arith, h))
+  ident_among n (k ∷ ks) ws h = elim (cases_Bool (bytes_eq t k)) [
     | inl e ↦
-        ap (λ z. is_ident (classed (if z then Some n else among (numbered (n + 1) (ks ++ b ∷ [])) t) t)) e ∙ eq_less n 52 (omega (arith, h))
+        ap (λ z. is_ident (classed (if z then Some n else among (numbered (n + 1) (ks ++ ws)) t) t)) e ∙ ap not (less n keyword_count (omega (arith, h)))
         ∙ sym (ap (λ z. not (z || is_one_of ks t)) e)
     | inr e ↦
-        ap (λ z. is_ident (classed (if z then Some n else among (numbered (n + 1) (ks ++ b ∷ [])) t) t)) e ∙ ident_among (n + 1) ks b (omega (arith, h))
+        ap (λ z. is_ident (classed (if z then Some n else among (numbered (n + 1) (ks ++ ws)) t) t)) e ∙ ident_among (n + 1) ks ws (omega (arith, h))
         ∙ sym (ap (λ z. not (z || is_one_of ks t)) e)
   ]
 
   ident_text : is_ident (text_class t) ≡ reads.is_ident t
   unfolding text_class word_number is_keyword
-  ident_text = ident_among 0 keywords (codes "builtin") refl
+  ident_text = ident_among 0 keywords weak_keywords refl
 
 pub any_at : (t : Toks) → is_any_ident (class_at t) ≡ word_meets any_text (as_word t)
 any_at done = refl
@@ -238,14 +245,6 @@ opens (saw_lit k) b l e = cc
 opens (saw_group a s c n) b l e = refl
 opens (saw_enter s c n) b l e = refl
 opens saw_leave b l e = cc
-
-pub opens_none : (x : Seen) (l : List Item) → ((b : Delimiter) → class_of x ≡ Open b → ⊥) → None ≡ entered (item x ∷ l)
-opens_none (saw_word i) l h = refl
-opens_none (saw_mark p) l h = refl
-opens_none (saw_lit k) l h = refl
-opens_none (saw_group a s c n) l h = absurd (h a refl)
-opens_none (saw_enter s c n) l h = absurd (h d.None refl)
-opens_none saw_leave l h = refl
 
 -- ---- reads of a word that is tested for first
 

@@ -1,16 +1,15 @@
 -- Values and marks up to the end of a stream, turn by turn.
-use Rattle.std.specs.Prelude.{◌≢◌, not}
+use Rattle.std.specs.Prelude.{◌≢◌}
 use Rattle.token_core.specs.declared.error.ErrorKind.{ErrorKind}
 use Rattle.token_core.specs.declared.error.ErrorKind.TheVariants.{OutOfMemory}
-use Rattle.std.proofs.Common.{◌≡◌, ◌<◌, ◌≤◌, Bool, true, false, List, [], ◌∷◌, ◌++◌, Result, Ok, Err, refl, sym, ◌∙◌, ap, subst, append_assoc, append-nil}
+use Rattle.std.proofs.Common.{◌≡◌, true, false, [], ◌∷◌, ◌++◌, Result, Err, sym, ◌∙◌, ap, subst, append_assoc, append-nil}
 use Rattle.token_core.specs.Refusal.{Refusal, refusal}
 use Rattle.token_core.specs.Stream.{Stream, Scope}
 use Rattle.token_core.specs.Toks.{Bytes, Toks}
 use Rattle.token_core.specs.Front.{front}
-use Rattle.token_core.specs.Reads.{Reader, Outcome, is_done, refused, here, span_at, at_end as input_end, Parsed, Gives}
-use Rattle.token_core.specs.Loops.{Many, onto, after, size, listed, terminated}
-use Rattle.token_core.specs.Terminated.{Terminates, Answers, at_end, last_value, value_and_mark}
-use Rattle.token_core.proofs.Turns.{turn_none, turn_last, turn_on}
+use Rattle.token_core.specs.Reads.{is_done, refused, here, span_at, at_end as input_end, Parsed}
+use Rattle.token_core.specs.Loops.{Many, onto}
+use Rattle.token_core.specs.Terminated.{Answers, at_end, last_value, value_and_mark}
 
 pub refused_so : {A : Type 0} (R : A → Stream → Type 0) (Q : Refusal → Type 0) (r : Result A Refusal) (u : Stream) (e : Refusal) → r ≡ Err e → (e.kind ≢ OutOfMemory → Q e) → Parsed R Q r u
 refused_so R Q r u e h f = subst (λ z. Parsed R Q z u) (sym h) f
@@ -38,29 +37,3 @@ module _ {A P : Type 0} (value : Stream → A → Stream → Type 0) (joint : St
 pub refused_there : (k : ErrorKind) (t : Bytes) (s u : Stream) → u.rest ≡ s.rest → u.scope ≡ s.scope → refused k t u ≡ refused k t s
 unfolding refused here
 refused_there k t s u e f = ap (λ (x : Toks). refusal k (input_end (is_done x) t) (span_at (front x) u.scope.at) (span_at (front x) u.scope.at)) e ∙ ap (λ (x : Scope). refusal k (input_end (is_done s.rest) t) (span_at (front s.rest) x.at) (span_at (front s.rest) x.at)) f
-
--- ---- values and marks whose reads are functions
-
-module _ {A P : Type 0} (value : Reader A) (joint : Reader P)
-    (takes : (s t : Stream) (x : A) → value s ≡ Ok (x, t) → size t.rest < size s.rest) (keeps : (s t : Stream) (p : P) → joint s ≡ Ok (p, t) → size t.rest ≤ size s.rest) where
-  abbrev All : Bool → Reader (Many A P)
-  All = listed (λ b. is_done) (λ b. value) (λ l. not (is_done l)) joint
-
-  read_from : (b : Bool) (v : Many A P) (s t : Stream) (xs : List A) (ps : List P) → Terminates (Gives value) (Gives joint) s xs ps t → after v (All b s) ≡ Ok (onto v (xs, ps), t)
-  read_from b v s t xs ps (at_end e) =
-      turn_none (λ b. is_done) (λ b. value) (λ l. not (is_done l)) joint v b s e
-      ∙ ap (λ z. Ok ((z, v.1), s)) (sym (append-nil v.0)) ∙ ap (λ z. Ok ((v.0 ++ [], z), s)) (sym (append-nil v.1))
-  read_from b v s t xs ps (last_value {x = x} d r e) =
-      turn_last (λ b. is_done) (λ b. value) (λ l. not (is_done l)) joint v b s t x d r (ap not e) ∙ ap (λ z. Ok ((v.0 ++ x ∷ [], z), t)) (sym (append-nil v.1))
-  read_from b v s t xs ps (value_and_mark {t = m} {u = k} {x = x} {p = p} {xs = ys} {ps = qs} d r e q n i) =
-      turn_on (λ b. is_done) (λ b. value) (λ l. not (is_done l)) joint (λ b. takes) keeps v b s m k x p d r (ap not e) q
-      ∙ read_from false (v.0 ++ x ∷ [], v.1 ++ p ∷ []) k t ys qs i
-      ∙ ap (λ z. Ok ((z, (v.1 ++ p ∷ []) ++ qs), t)) (append_assoc v.0 (x ∷ []) ys) ∙ ap (λ z. Ok ((v.0 ++ x ∷ ys, z), t)) (append_assoc v.1 (p ∷ []) qs)
-
-  after_nothing : (o : Outcome (Many A P)) → after ([], []) o ≡ o
-  after_nothing (Ok p) = refl
-  after_nothing (Err e) = refl
-
-  -- such a list is what the terminated reader reads
-  pub terminates_reads : (s t : Stream) (xs : List A) (ps : List P) → Terminates (Gives value) (Gives joint) s xs ps t → terminated is_done value joint s ≡ Ok ((xs, ps), t)
-  terminates_reads s t xs ps i = sym (after_nothing (All true s)) ∙ read_from true ([], []) s t xs ps i

@@ -1,16 +1,13 @@
 -- What isn't seen where something else stands.
 use Rattle.std.proofs.Common.{◌≡◌, ℕ, Bool, true, false, ◌==◌, ◌||◌, if◌then◌else◌, List, [], ◌∷◌, Option, Some, None, is_some, refl, ap}
-use Rattle.token_core.specs.declared.tree.Delimiter.{Delimiter}
 use Rattle.token_core.specs.declared.tree.Ident.{Ident}
 use Rattle.token_core.specs.declared.tree.Punct.{Punct}
-use Rattle.token_core.specs.declared.tree.Literal.{Literal}
-use Rattle.token_core.specs.declared.span.DelimSpan.{DelimSpan}
 use Rattle.token_core.specs.declared.mark.Spans.{Spans}
 use Rattle.token_core.specs.declared.mark.Mark.{Mark}
 use Rattle.token_core.specs.Toks.{Bytes, Toks, done, word, mark, lit, group, enter, leave}
 use Rattle.token_core.specs.Marks.{chars_of}
 use Rattle.token_core.specs.Lifetimes.{sees_lifetime}
-use Rattle.token_core.specs.Reads.{past_mark, past_next, is_last, three, put_first, is_joint, sees_mark, sees_word, sees_group}
+use Rattle.token_core.specs.Reads.{past_mark, past_next, is_last, three, put_first, is_joint, sees_mark, sees_word}
 use Rattle.token_core.specs.Spellings.{IsMark, is_mark}
 use Rattle.token_core.proofs.MarkSpells.{longer_unseen}
 
@@ -24,14 +21,6 @@ module _ (c : ℕ) (cs : List ℕ) where
   pub no_mark-word : (i : Ident) (r : Toks) → sees_mark (c ∷ cs) (word i r) ≡ false
   unfolding sees_mark
   no_mark-word i r = refl
-
-  pub no_mark-lit : (x : Literal) (r : Toks) → sees_mark (c ∷ cs) (lit x r) ≡ false
-  unfolding sees_mark
-  no_mark-lit x r = refl
-
-  pub no_mark-group : (d : Delimiter) (s : DelimSpan) (k r : Toks) → sees_mark (c ∷ cs) (group d s k r) ≡ false
-  unfolding sees_mark
-  no_mark-group d s k r = refl
 
 -- another character stands there
 pub no_mark-other : (c : ℕ) (cs : List ℕ) (p : Punct) (r : Toks) → (p.ch == c) ≡ false → sees_mark (c ∷ cs) (mark p r) ≡ false
@@ -55,55 +44,9 @@ word_no_mark test c cs (leave k) h = word_no_mark test c cs k h
 
 -- ---- words, lifetimes and groups
 
-module _ (test : Bytes → Bool) where
-  pub no_word-done : sees_word test done ≡ false
-  unfolding sees_word
-  no_word-done = refl
-
-  pub no_word-mark : (p : Punct) (r : Toks) → sees_word test (mark p r) ≡ false
-  unfolding sees_word
-  no_word-mark p r = refl
-
-  pub no_word-lit : (x : Literal) (r : Toks) → sees_word test (lit x r) ≡ false
-  unfolding sees_word
-  no_word-lit x r = refl
-
-  pub no_word-group : (d : Delimiter) (s : DelimSpan) (k r : Toks) → sees_word test (group d s k r) ≡ false
-  unfolding sees_word
-  no_word-group d s k r = refl
-
 pub no_lifetime-done : sees_lifetime done ≡ false
 unfolding sees_lifetime
 no_lifetime-done = refl
-
-pub no_lifetime-word : (i : Ident) (r : Toks) → sees_lifetime (word i r) ≡ false
-unfolding sees_lifetime
-no_lifetime-word i r = refl
-
-pub no_lifetime-lit : (x : Literal) (r : Toks) → sees_lifetime (lit x r) ≡ false
-unfolding sees_lifetime
-no_lifetime-lit x r = refl
-
-pub no_lifetime-group : (d : Delimiter) (s : DelimSpan) (k r : Toks) → sees_lifetime (group d s k r) ≡ false
-unfolding sees_lifetime
-no_lifetime-group d s k r = refl
-
-module _ (b : Delimiter) where
-  pub no_group-done : sees_group b done ≡ false
-  unfolding sees_group
-  no_group-done = refl
-
-  pub no_group-word : (i : Ident) (r : Toks) → sees_group b (word i r) ≡ false
-  unfolding sees_group
-  no_group-word i r = refl
-
-  pub no_group-mark : (p : Punct) (r : Toks) → sees_group b (mark p r) ≡ false
-  unfolding sees_group
-  no_group-mark p r = refl
-
-  pub no_group-lit : (x : Literal) (r : Toks) → sees_group b (lit x r) ≡ false
-  unfolding sees_group
-  no_group-lit x r = refl
 
 -- ---- a clear mark is no part of a longer one
 
@@ -117,18 +60,6 @@ or_right false b e = e
 
 pub colon_apart : (m : Mark 7 1) (l r : Toks) → IsMark true m l r → sees_mark (chars_of 1) l ≡ false
 colon_apart m l r (is_mark {ss = ss} i) = longer_unseen true (58 ∷ []) 58 [] 58 [] ss l r i refl (λ e. or_left (sees_mark (58 ∷ []) r) _ e)
-
-pub minus_apart : (m : Mark 15 1) (l r : Toks) → IsMark true m l r → sees_mark (chars_of 23) l ≡ false
-minus_apart m l r (is_mark {ss = ss} i) = longer_unseen true (45 ∷ []) 45 [] 62 [] ss l r i refl (λ e. or_left (sees_mark (62 ∷ []) r) _ e)
-
-pub eq_apart : (m : Mark 11 1) (l r : Toks) → IsMark true m l r → sees_mark (chars_of 12) l ≡ false
-eq_apart m l r (is_mark {ss = ss} i) = longer_unseen true (61 ∷ []) 61 [] 61 [] ss l r i refl (λ e. or_left (sees_mark (61 ∷ []) r) _ e)
-
-pub eq_no_arrow : (m : Mark 11 1) (l r : Toks) → IsMark true m l r → sees_mark (chars_of 13) l ≡ false
-eq_no_arrow m l r (is_mark {ss = ss} i) = longer_unseen true (61 ∷ []) 61 [] 62 [] ss l r i refl (λ e. or_left (sees_mark (62 ∷ []) r) _ (or_right (sees_mark (61 ∷ []) r) _ e))
-
-pub not_apart : (m : Mark 0 1) (l r : Toks) → IsMark true m l r → sees_mark (chars_of 16) l ≡ false
-not_apart m l r (is_mark {ss = ss} i) = longer_unseen true (33 ∷ []) 33 [] 61 [] ss l r i refl (λ e. or_left (sees_mark (61 ∷ []) r) _ e)
 
 pub lt_apart : (m : Mark 2 1) (l r : Toks) → IsMark true m l r → sees_mark (chars_of 14) l ≡ false
 lt_apart m l r (is_mark {ss = ss} i) = longer_unseen true (60 ∷ []) 60 [] 61 [] ss l r i refl (λ e. or_left (sees_mark (61 ∷ []) r) _ e)

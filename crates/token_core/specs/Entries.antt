@@ -91,6 +91,3 @@ Nested (saw_lit k ∷ l) = Nested l
 Nested (saw_group d s c n ∷ l) = Inside c n l × Nested l
 Nested (saw_enter s c n ∷ l) = Inside c n l × Nested l
 Nested (saw_leave ∷ l) = Nested l
-
-pub record AreNested (l : List Entry) : Type 0 where
-  pub nested : Nested (map saw l)

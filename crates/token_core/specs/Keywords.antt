@@ -1,4 +1,4 @@
--- The words: those that are no `Ident`, and `builtin`.
+-- The words: the keywords, which are no `Ident`, and those that are keywords in their places alone.
 use Rattle.std.specs.Prelude.{ℕ, Bool, false, List, [], ◌∷◌, ◌++◌, ◌||◌, codes, get_or}
 use Rattle.std.specs.Str.{bytes_eq}
 use Rattle.token_core.specs.Toks.{Bytes}
@@ -60,12 +60,19 @@ keywords =
     ∷ codes "yield"
     ∷ []
 
+abbrev pub keyword_count : ℕ
+keyword_count = 52
+
+-- keywords in their places alone, and else identifiers
+abbrev pub weak_keywords : List Bytes
+weak_keywords = codes "builtin" ∷ codes "union" ∷ []
+
 -- the words by their numbers
 abbrev pub words : List Bytes
-words = keywords ++ (codes "builtin" ∷ [])
+words = keywords ++ weak_keywords
 
 abbrev pub word_count : ℕ
-word_count = 53
+word_count = 54
 
 -- the text of a word; a number that names none has no text
 abbrev pub text_of : ℕ → Bytes

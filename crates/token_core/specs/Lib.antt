@@ -30,6 +30,7 @@ pub mod Loops
 pub mod Listed
 pub mod Names
 pub mod Positions
+pub mod Levels
 pub mod Cut
 pub mod Clear
 pub mod Headline
@@ -41,3 +42,5 @@ pub mod Ranges
 pub mod Lifetimes
 pub mod Sees
 pub mod Spellings
+pub mod Grammars
+pub mod fronts

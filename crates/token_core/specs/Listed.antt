@@ -22,8 +22,3 @@ Nowhere first = ⊥
 abbrev pub AfterMark : Bool → Type 0
 AfterMark true = ⊥
 AfterMark false = Unit {0}
-
--- a list that may be empty, and doesn't end in a mark
-abbrev pub AtFirst : Bool → Type 0
-AtFirst true = Unit {0}
-AtFirst false = ⊥

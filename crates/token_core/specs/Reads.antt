@@ -319,10 +319,6 @@ pub record IsFork (fork s : Stream) : Type 0 where
 abbrev pub advanced : Stream → Stream → Stream
 advanced s f = record f { left = first_of s.left f.left }
 
--- nothing is left, here and in the groups that were finished
-abbrev pub is_clean : Stream → Bool
-is_clean s = not (is_some (leaves s))
-
 -- ---- what a function that reads ensures: the outcome, want of memory aside
 
 abbrev pub Reads : {A : Type 0} → Outcome A → Result A Refusal → Stream → Type 0

@@ -2,7 +2,7 @@
 use Rattle.std.specs.Prelude.{◌≡◌, ◌≢◌, ◌⊎◌, ℕ, ◌==◌, if◌then◌else◌, [], Option, Some, None, refl, codes}
 use Rattle.std.specs.Coded.{Coded, code_by, coded×, coded_ℕ}
 use Rattle.token_core.specs.declared.error.ErrorKind.{ErrorKind}
-use Rattle.token_core.specs.declared.error.ErrorKind.TheVariants.{OutOfMemory, Expected, Unexpected, Custom, ExpectedDelimiter, ExpectedPathSegment, ExpectedPathIdent, ExpectedAttributeArguments, ExpectedParentheses, TokenInAttribute, ExpectedMetaArguments, ExpectedParenthesis, ExpectedMetaValue, ExpectedEquals, AttributeInAttribute, ExpectedNestedAttribute, LiteralInNestedAttribute, TokenInNestedAttribute, UnclosedDelimiter, UnexpectedClosingDelimiter, UnknownToken, UnterminatedToken, DocComment, MalformedNumber, BinderWithQuestion, GenericsOnWhere, CaptureNotAllowed, ConditionalConstNotAllowed, ConstNotAllowed, NoTraitInObject, NoTraitInImpl, RangeWithoutEnd, OpenRangeInSlice, BoundModifiersNotSupported}
+use Rattle.token_core.specs.declared.error.ErrorKind.TheVariants.{OutOfMemory, Expected, Unexpected, Custom, ExpectedDelimiter, ExpectedPathSegment, ExpectedPathIdent, ExpectedAttributeArguments, ExpectedParentheses, TokenInAttribute, ExpectedMetaArguments, ExpectedParenthesis, ExpectedMetaValue, ExpectedEquals, AttributeInAttribute, ExpectedNestedAttribute, LiteralInNestedAttribute, TokenInNestedAttribute, UnclosedDelimiter, UnexpectedClosingDelimiter, UnknownToken, UnterminatedToken, DocComment, MalformedNumber, BinderWithQuestion, GenericsOnWhere, CaptureNotAllowed, ConditionalConstNotAllowed, ConstNotAllowed, NoTraitInObject, NoTraitInImpl, RangeWithoutEnd, OpenRangeInSlice, BoundModifiersNotSupported, NestedTooDeep}
 use Rattle.token_core.specs.declared.span.Span.{Span}
 use Rattle.token_core.specs.Toks.{Bytes}
 use Rattle.token_core.specs.Spans.{none}
@@ -50,6 +50,7 @@ fixed NoTraitInImpl = codes "at least one trait must be specified"
 fixed RangeWithoutEnd = codes "expected range upper bound"
 fixed OpenRangeInSlice = codes "range pattern is not allowed unparenthesized inside slice pattern"
 fixed BoundModifiersNotSupported = codes "trait bound modifiers are not supported here"
+fixed NestedTooDeep = codes "nested too deep"
 
 abbrev pub text_or : Option Bytes → Bytes
 text_or None = fixed OutOfMemory
@@ -112,6 +113,7 @@ kind_number NoTraitInImpl = 30
 kind_number RangeWithoutEnd = 31
 kind_number OpenRangeInSlice = 32
 kind_number BoundModifiersNotSupported = 33
+kind_number NestedTooDeep = 34
 
 abbrev number_kind : ℕ → ErrorKind
 number_kind n =
@@ -148,7 +150,8 @@ number_kind n =
     if n == 30 then NoTraitInImpl else (
     if n == 31 then RangeWithoutEnd else (
     if n == 32 then OpenRangeInSlice else (
-    BoundModifiersNotSupported)))))))))))))))))))))))))))))))))
+    if n == 33 then BoundModifiersNotSupported else (
+    NestedTooDeep))))))))))))))))))))))))))))))))))
 
 pub kind_back : (k : ErrorKind) → number_kind (kind_number k) ≡ k
 kind_back OutOfMemory = refl
@@ -185,6 +188,7 @@ kind_back NoTraitInImpl = refl
 kind_back RangeWithoutEnd = refl
 kind_back OpenRangeInSlice = refl
 kind_back BoundModifiersNotSupported = refl
+kind_back NestedTooDeep = refl
 
 abbrev pub kind_code : Coded ErrorKind
 kind_code = code_by ℕ coded_ℕ kind_number number_kind kind_back

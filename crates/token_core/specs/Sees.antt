@@ -1,5 +1,5 @@
 -- What a test sees of classes alone: of the first tree, and of what follows it.
-use Rattle.std.specs.Prelude.{ℕ, Bool, true, false, ◌||◌, ◌==◌, if◌then◌else◌, List, [], ◌∷◌, drop, ◌+◌, Option, Some, None, nat_eq}
+use Rattle.std.specs.Prelude.{ℕ, Bool, true, false, not, ◌||◌, ◌==◌, if◌then◌else◌, List, [], ◌∷◌, drop, ◌+◌, Option, Some, None, nat_eq, nat_lt}
 use Rattle.token_core.specs.declared.class.Class.{Class}
 use Rattle.token_core.specs.declared.class.Class.TheVariants.{Word, Raw, Ident, Mark, Literal, Open, End}
 use Rattle.token_core.specs.declared.tree.Delimiter.{Delimiter}
@@ -8,7 +8,8 @@ use Rattle.token_core.specs.declared.tree.LitKind.{LitKind}
 use Rattle.token_core.specs.Toks.{Toks, done, word, mark, lit, group, enter, leave}
 use Rattle.token_core.specs.Seen.{Seen, saw_word, saw_mark, saw_lit, saw_group, saw_enter, saw_leave}
 use Rattle.token_core.specs.Front.{front}
-use Rattle.token_core.specs.Classes.{text_class, class_of, builtin_number, true_number, false_number}
+use Rattle.token_core.specs.Classes.{text_class, class_of, true_number, false_number}
+use Rattle.token_core.specs.Keywords.{keyword_count}
 use Rattle.token_core.specs.Reads.{same_delimiter, is_joint, is_last}
 use Rattle.token_core.specs.Lits as lits
 
@@ -70,7 +71,7 @@ is_any_ident End = false
 
 -- one that is no keyword
 abbrev pub is_ident : Class → Bool
-is_ident (Word n) = nat_eq n builtin_number
+is_ident (Word n) = not (nat_lt n keyword_count)
 is_ident Raw = true
 is_ident Ident = true
 is_ident (Mark j c) = false

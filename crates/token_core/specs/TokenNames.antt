@@ -17,7 +17,7 @@ other_names =
     ∷ []
 
 abbrev pub first_other : ℕ
-first_other = 80
+first_other = 81
 
 abbrev pub ident_number : ℕ
 ident_number = first_other
@@ -51,10 +51,10 @@ name_of n =
 
 -- how many tokens there are; all that have no name count as the last
 abbrev pub token_count : ℕ
-token_count = 89
+token_count = 90
 
 abbrev pub nameless : ℕ
-nameless = 88
+nameless = 89
 
 abbrev pub mark_number : ℕ → ℕ
 mark_number n = if nat_lt n mark_count then n else nameless

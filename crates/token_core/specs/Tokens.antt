@@ -529,9 +529,52 @@ sees_async = sees_word (is_text (text_of 21))
 abbrev pub async_word : Reader (Word 21)
 async_word = read_named 21
 
+-- `enum`
+abbrev pub Enum : Type 0
+Enum = Word 28
+
+abbrev pub sees_enum : Toks → Bool
+sees_enum = sees_word (is_text (text_of 28))
+
+abbrev pub enum_word : Reader (Word 28)
+enum_word = read_named 28
+
+-- `in`
+abbrev pub In : Type 0
+In = Word 31
+
+abbrev pub sees_in : Toks → Bool
+sees_in = sees_word (is_text (text_of 31))
+
+abbrev pub in_word : Reader (Word 31)
+in_word = read_named 31
+
+-- `pub`
+abbrev pub Pub : Type 0
+Pub = Word 40
+
+abbrev pub sees_pub : Toks → Bool
+sees_pub = sees_word (is_text (text_of 40))
+
+abbrev pub pub_word : Reader (Word 40)
+pub_word = read_named 40
+
 -- `struct`
 abbrev pub Struct : Type 0
 Struct = Word 43
 
+abbrev pub sees_struct : Toks → Bool
+sees_struct = sees_word (is_text (text_of 43))
+
 abbrev pub struct_word : Reader (Word 43)
 struct_word = read_named 43
+
+-- `union`
+abbrev pub Union : Type 0
+Union = Word 53
+
+abbrev pub sees_union : Toks → Bool
+sees_union = sees_word (is_text (text_of 53))
+
+abbrev pub union_word : Reader (Word 53)
+union_word = read_named 53

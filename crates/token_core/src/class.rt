@@ -12,7 +12,7 @@ use crate::word::word_text;
 /// What an entry is.
 #[derive(Clone, Copy)]
 pub(crate) enum Class {
-    /// A plain identifier that is a keyword or `builtin`, by its number among the words.
+    /// A plain identifier that is a word of the table, by its number.
     Word(u8),
     /// A raw identifier.
     Raw,
@@ -48,7 +48,7 @@ fn numbers_from(first: u8) -> &'static [u8]
         b'r' => &[14, 41],
         b's' => &[1, 2, 42, 43],
         b't' => &[15, 44, 45, 46, 47],
-        b'u' => &[16, 17, 48],
+        b'u' => &[16, 17, 48, 53],
         b'v' => &[49],
         b'w' => &[18, 50],
         b'y' => &[51],
@@ -67,7 +67,7 @@ fn among(numbers: &[u8], text: &str) -> Option<u8>
     None
 }
 
-/// The number of a text among the keywords and `builtin`.
+/// The number of a text among the words.
 #[tactic(auto, using(crate::proofs::Classes::found))]
 fn word_number(text: &str) -> Option<u8>
     ensures { result ≡ spec.word_number text.now }

@@ -39,10 +39,9 @@ impl<T: Drop> Held<T> {
     pub fn new(alloc: Global, value: T) -> Result<Held<T>, AllocError>
         ensures { IfOk result (λ h. h ≡ value) }
     {
-        match Rc::new(alloc, value) {
-            Ok(inner) => Ok(Held { inner }),
-            Err(_) => Err(AllocError),
-        }
+        Ok(Held {
+            inner: Rc::new(alloc, value)?,
+        })
     }
 
     /// The same value, by one count more.

@@ -5,7 +5,7 @@ ghost use Rattle.token_core.specs.Refusal as spec;
 
 use crate::span::Span;
 use crate::text::Text;
-use std::alloc::{AllocError, Global};
+use std::alloc::{AllocError, AllocFailed, Global};
 use std::fmt;
 use std::marker::Model;
 
@@ -80,6 +80,8 @@ pub enum ErrorKind {
     OpenRangeInSlice,
     /// A trait bound has `const`, `[const]` or `async` where none is supported.
     BoundModifiersNotSupported,
+    /// A text or a list is nested deeper than its limit.
+    NestedTooDeep,
 }
 
 impl ErrorKind {
@@ -129,6 +131,7 @@ impl ErrorKind {
             ErrorKind::OpenRangeInSlice =>
                 "range pattern is not allowed unparenthesized inside slice pattern",
             ErrorKind::BoundModifiersNotSupported => "trait bound modifiers are not supported here",
+            ErrorKind::NestedTooDeep => "nested too deep",
         }
     }
 }
@@ -257,6 +260,15 @@ impl From<AllocError> for Error {
     ghost from_gives = { λ _ e. e ≡ spec.out_of_memory };
 
     fn from(_e: AllocError) -> Error {
+        Error::out_of_memory()
+    }
+}
+
+/// Of what a collection or a box had no room for, which is dropped.
+impl<T: Drop> From<AllocFailed<T>> for Error {
+    ghost from_gives = { λ _ e. e ≡ spec.out_of_memory };
+
+    fn from(_e: AllocFailed<T>) -> Error {
         Error::out_of_memory()
     }
 }

@@ -1,6 +1,9 @@
 //! Lifetimes.
 
 ghost use Rattle.std.specs.Prelude.{◌≡◌, option_map, IfOk, OnErr};
+ghost use Rattle.token_core.specs.Fronted.{Fronted};
+ghost use Rattle.token_core.specs.Grammars as grammars;
+ghost use Rattle.token_core.specs.Headline.{Heads};
 ghost use Rattle.token_core.specs.Lifetimes as spec;
 ghost use Rattle.token_core.specs.Prints as prints;
 ghost use Rattle.token_core.specs.Prints.{Appends};
@@ -58,19 +61,13 @@ impl Lifetime {
     }
 
     /// Reads a lifetime, a keyword's too; it is refused where none is at the front.
-    #[tactic(auto, using(crate::proofs::Suffixes::follows_self), unfolding(crate::specs::Lifetimes::read_lifetime))]
     pub fn parse_any(alloc: Global, input: &mut ParseStream<'_>) -> Result<Lifetime, Error>
         ensures parses { Parses spec.read_lifetime result input.old input.new }
         ensures same { OnErr result (input.new ≡ input.old) }
+        ensures promise { Heads grammars.lifetime.grammar input.old result input.new }
+        ensures fronts { Fronted grammars.lifetime input.old result input.new }
     {
-        match past_lifetime(input.place()) {
-            Some((apostrophe, ident, more)) => {
-                let copy = ident.copy(alloc)?;
-                input.go_on(more, ident.span);
-                Ok(Lifetime::new(apostrophe, copy))
-            }
-            None => Err(input.expected(alloc, Lifetime::display())),
-        }
+        parse_lifetime(alloc, input)
     }
 
     /// Reads a lifetime if one is at the front.
@@ -97,6 +94,21 @@ impl Lifetime {
             apostrophe: self.apostrophe,
             ident: self.ident.copy(alloc)?,
         })
+    }
+}
+
+#[tactic(auto, using(crate::proofs::Suffixes::follows_self), unfolding(crate::specs::Lifetimes::read_lifetime))]
+fn parse_lifetime(alloc: Global, input: &mut ParseStream<'_>) -> Result<Lifetime, Error>
+    ensures parses { Parses spec.read_lifetime result input.old input.new }
+    ensures same { OnErr result (input.new ≡ input.old) }
+{
+    match past_lifetime(input.place()) {
+        Some((apostrophe, ident, more)) => {
+            let copy = ident.copy(alloc)?;
+            input.go_on(more, ident.span);
+            Ok(Lifetime::new(apostrophe, copy))
+        }
+        None => Err(input.expected(alloc, Lifetime::display())),
     }
 }
 

@@ -6,6 +6,9 @@ ghost use Rattle.token_core.specs.declared.lit.Lit.TheVariants as variant;
 ghost use Rattle.token_core.specs.Prints.{Appends};
 ghost use Rattle.token_core.specs.Reads.{Reads, Gives, Fails, as_lit, Parses};
 ghost use Rattle.token_core.specs.Front.{front, shows};
+ghost use Rattle.token_core.specs.Fronted.{said};
+ghost use Rattle.token_core.specs.Grammars as grammars;
+ghost use Rattle.token_core.specs.Headline.{Headline};
 ghost use Rattle.token_core.specs.Sees as sees;
 ghost use Rattle.token_core.specs.TokenNames as names;
 ghost use Rattle.token_core.specs.Trees.{trees};
@@ -375,7 +378,10 @@ impl Parse for Lit {
 
     ghost refuses = { Fails spec.read_lit };
 
-    #[tactic(auto, using(crate::specs::Reads::no_promise))]
+    ghost promise = { Headline grammars.lit.grammar };
+
+    ghost fronts = { said grammars.lit };
+
     fn parse(alloc: Global, input: &mut ParseStream<'_>) -> Result<Lit, Error> {
         parse_lit(alloc, input)
     }
@@ -483,7 +489,10 @@ impl Parse for LitStr {
 
     ghost refuses = { Fails spec.read_str };
 
-    #[tactic(auto, using(crate::specs::Reads::no_promise))]
+    ghost promise = { Headline grammars.lit_str.grammar };
+
+    ghost fronts = { said grammars.lit_str };
+
     fn parse(alloc: Global, input: &mut ParseStream<'_>) -> Result<LitStr, Error> {
         parse_str(alloc, input)
     }

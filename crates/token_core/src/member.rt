@@ -1,6 +1,9 @@
 //! Members of structs and of tuples.
 
 ghost use Rattle.std.specs.Prelude.{◌≡◌, ◌≤◌, IfOk, OnErr};
+ghost use Rattle.token_core.specs.Fronted.{said};
+ghost use Rattle.token_core.specs.Grammars as grammars;
+ghost use Rattle.token_core.specs.Headline.{Headline};
 ghost use Rattle.token_core.specs.Members as spec;
 ghost use Rattle.token_core.specs.Reads.{Reads, Gives, Fails, Parses};
 
@@ -141,7 +144,10 @@ impl Parse for Index {
 
     ghost refuses = { Fails spec.read_index };
 
-    #[tactic(auto, using(crate::specs::Reads::no_promise))]
+    ghost promise = { Headline grammars.index.grammar };
+
+    ghost fronts = { said grammars.index };
+
     fn parse(alloc: Global, input: &mut ParseStream<'_>) -> Result<Index, Error> {
         parse_index(alloc, input)
     }
@@ -178,7 +184,10 @@ impl Parse for Member {
 
     ghost refuses = { Fails spec.read_member };
 
-    #[tactic(auto, using(crate::specs::Reads::no_promise))]
+    ghost promise = { Headline grammars.member.grammar };
+
+    ghost fronts = { said grammars.member };
+
     fn parse(alloc: Global, input: &mut ParseStream<'_>) -> Result<Member, Error> {
         parse_member(alloc, input)
     }

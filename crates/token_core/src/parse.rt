@@ -10,6 +10,7 @@ ghost use Rattle.token_core.specs.Stream.{Stream, started};
 ghost use Rattle.token_core.specs.ByFns.{CanParse, Answers, RefusesBy};
 ghost use Rattle.token_core.specs.Reads.{Follows, Parsed, WholeRead, Promised, Keeps};
 ghost use Rattle.token_core.specs.Fronted.{Fronts, unsaid, KeepsFront};
+ghost use Rattle.token_core.specs.fronts.Both as both;
 
 use crate::buffer::TokenBuffer;
 use crate::error::{Error, ErrorKind};
@@ -186,6 +187,22 @@ impl<T: Parse> Parser for ByParse<T> {
 
     fn parse(self, alloc: Global, input: &mut ParseStream<'_>) -> Result<T, Error> {
         T::parse(alloc, input)
+    }
+}
+
+/// Reads both, one after the other.
+impl<A: Parse, B: Parse> Parse for (A, B) {
+    ghost reads = { both.ReadBoth A.reads B.reads };
+
+    ghost refuses = { both.RefusedBoth A.reads A.refuses B.refuses };
+
+    ghost fronts = { both.pairs A.fronts B.fronts };
+
+    #[tactic(auto, using(crate::specs::Reads::no_promise, crate::proofs::Suffixes::follows))]
+    fn parse(alloc: Global, input: &mut ParseStream<'_>) -> Result<(A, B), Error> {
+        let first = A::parse(alloc, input)?;
+        let second = B::parse(alloc, input)?;
+        Ok((first, second))
     }
 }
 

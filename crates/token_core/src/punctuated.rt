@@ -1,6 +1,8 @@
 //! Values with marks between them.
 
 ghost use Rattle.std.specs.Prelude.{◌≡◌, ◌++◌, ◌∷◌, [], ◌<◌, length, OnOk, OnErr, IsTrue, ◌↔◌, ◌+◌, option_map, slice_get, min, ◌^◌, ◌-◌, MatchOption, Ok, Err, IsFalse, Some};
+ghost use Rattle.token_core.specs.Fronted.{KeepsFront};
+ghost use Rattle.token_core.specs.fronts.Lists as lists;
 ghost use Rattle.token_core.specs.Lists as spec;
 ghost use Rattle.token_core.specs.Prints.{Appends};
 ghost use Rattle.token_core.specs.Reads.{Parsed, Follows};
@@ -11,12 +13,12 @@ ghost use Rattle.token_core.specs.Lent.{values_left};
 
 use crate::error::{Error, ErrorKind};
 use crate::items::Items;
-use crate::parse::Parse;
+use crate::parse::{Parse, Parser};
 use crate::parse_stream::ParseStream;
 use crate::to_tokens::ToTokens;
 use crate::tree::TokenStream;
 use std::alloc::{AllocError, Global};
-use std::marker::Model;
+use std::marker::{Model, PhantomData};
 use std::ops::Index;
 use std::slice;
 
@@ -309,13 +311,23 @@ impl<'a, T> Iterator for IterMut<'a, T> {
 impl<T: Parse, P: Parse> Punctuated<T, P> {
     /// Reads values and marks in turn up to the end of the stream; a mark may be last. A value and a mark that take no token
     /// are refused as `unexpected token`, since they would come for ever.
-    #[tactic(auto, using(crate::proofs::Suffixes::follows))]
     pub fn parse_terminated(
         alloc: Global,
         input: &mut ParseStream<'_>,
     ) -> Result<Punctuated<T, P>, Error>
         ensures reads { Parsed (terminated.Answers T.reads P.reads input.old)
             (λ e. terminated.Refused T.reads P.reads T.refuses P.refuses e input.old) result input.new }
+        ensures within { Follows input.old input.new }
+        ensures fronts { KeepsFront (lists.listings T.fronts P.fronts) input.old result input.new }
+    {
+        Punctuated::parse_turns(alloc, input)
+    }
+
+    /// The same; what it says of each value and mark has what these promise on fronts.
+    #[tactic(auto, using(crate::proofs::Suffixes::follows))]
+    fn parse_turns(alloc: Global, input: &mut ParseStream<'_>) -> Result<Punctuated<T, P>, Error>
+        ensures reads { lists.ReadTurns T.reads T.refuses P.reads P.refuses T.fronts P.fronts
+            input.old result input.new }
         ensures within { Follows input.old input.new }
     {
         let mut list = Punctuated::new(alloc);
@@ -331,6 +343,41 @@ impl<T: Parse, P: Parse> Punctuated<T, P> {
             }
         }
         Ok(list)
+    }
+}
+
+/// `Punctuated::parse_terminated`, as a parser.
+#[derive(Drop)]
+pub struct ByTerminated<T, P> {
+    value: PhantomData<T>,
+    mark: PhantomData<P>,
+}
+
+impl<T, P> ByTerminated<T, P> {
+    pub fn new() -> ByTerminated<T, P>
+        ensures { result ≡ record { value = record {}; mark = record {} } }
+    {
+        ByTerminated {
+            value: PhantomData,
+            mark: PhantomData,
+        }
+    }
+}
+
+impl<T: Parse, P: Parse> Parser for ByTerminated<T, P> {
+    type Output = Punctuated<T, P>;
+
+    ghost can_parse = { λ _. Unit {0} };
+
+    ghost reads = { λ _. terminated.Answers T.reads P.reads };
+
+    ghost refuses = { λ _ s e. terminated.Refused T.reads P.reads T.refuses P.refuses e s };
+
+    ghost fronts = { λ _. lists.listings T.fronts P.fronts };
+
+    #[tactic(auto, using(crate::specs::Reads::no_promise))]
+    fn parse(self, alloc: Global, input: &mut ParseStream<'_>) -> Result<Punctuated<T, P>, Error> {
+        Punctuated::parse_terminated(alloc, input)
     }
 }
 

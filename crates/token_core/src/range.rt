@@ -1,5 +1,8 @@
 //! The marks of ranges.
 
+ghost use Rattle.token_core.specs.Fronted.{Fronted, said};
+ghost use Rattle.token_core.specs.Grammars as grammars;
+ghost use Rattle.token_core.specs.Headline.{Headline, Heads};
 ghost use Rattle.token_core.specs.Ranges as spec;
 ghost use Rattle.token_core.specs.Reads.{Reads, Gives, Fails, Parses};
 
@@ -27,8 +30,7 @@ fn parse_limits(alloc: Global, input: &mut ParseStream<'_>) -> Result<RangeLimit
     if input.peek::<DotDotEq>() {
         return Ok(RangeLimits::Closed(input.parse::<DotDotEq>(alloc)?));
     }
-    // all tested, so that the answer is one value
-    if input.peek::<DotDot>() & !input.peek::<DotDotDot>() {
+    if input.peek::<DotDot>() && !input.peek::<DotDotDot>() {
         Ok(RangeLimits::HalfOpen(input.parse::<DotDot>(alloc)?))
     } else {
         Err(input.expected(alloc, "`..=` or `..`"))
@@ -41,7 +43,10 @@ impl Parse for RangeLimits {
 
     ghost refuses = { Fails spec.read };
 
-    #[tactic(auto, using(crate::specs::Reads::no_promise))]
+    ghost promise = { Headline grammars.limits.grammar };
+
+    ghost fronts = { said grammars.limits };
+
     fn parse(alloc: Global, input: &mut ParseStream<'_>) -> Result<RangeLimits, Error> {
         parse_limits(alloc, input)
     }
@@ -49,17 +54,25 @@ impl Parse for RangeLimits {
 
 impl RangeLimits {
     /// Reads `..=`, `..`, or `...`, which is kept as `..=`.
-    #[tactic(auto, using(crate::proofs::Suffixes::follows_self), unfolding(crate::specs::Ranges::read_obsolete))]
     pub fn parse_obsolete(alloc: Global, input: &mut ParseStream<'_>) -> Result<RangeLimits, Error>
         ensures parses { Parses spec.read_obsolete result input.old input.new }
+        ensures promise { Heads grammars.obsolete_limits.grammar input.old result input.new }
+        ensures fronts { Fronted grammars.obsolete_limits input.old result input.new }
     {
-        if input.peek::<DotDotDot>() {
-            let dots = input.parse::<DotDotDot>(alloc)?;
-            let spans = dots.spans;
-            Ok(RangeLimits::Closed(DotDotEq { spans }))
-        } else {
-            parse_limits(alloc, input)
-        }
+        parse_obsolete_limits(alloc, input)
+    }
+}
+
+#[tactic(auto, using(crate::proofs::Suffixes::follows_self), unfolding(crate::specs::Ranges::read_obsolete))]
+fn parse_obsolete_limits(alloc: Global, input: &mut ParseStream<'_>) -> Result<RangeLimits, Error>
+    ensures parses { Parses spec.read_obsolete result input.old input.new }
+{
+    if input.peek::<DotDotDot>() {
+        let dots = input.parse::<DotDotDot>(alloc)?;
+        let spans = dots.spans;
+        Ok(RangeLimits::Closed(DotDotEq { spans }))
+    } else {
+        parse_limits(alloc, input)
     }
 }
 

@@ -10,7 +10,7 @@ ghost use Rattle.token_core.specs.Sees as spec;
 use crate::class::Class;
 use crate::place::Place;
 use crate::tree::{Delimiter, LitKind, Spacing};
-use crate::word::BUILTIN;
+use crate::word::KEYWORDS;
 
 /// Whether it is an identifier, keywords and `_` too.
 pub(crate) fn is_any_ident(class: Class) -> bool
@@ -32,7 +32,7 @@ pub(crate) fn is_ident(class: Class) -> bool
     ensures { result ≡ spec.is_ident class }
 {
     match class {
-        Class::Word(number) => number == BUILTIN,
+        Class::Word(number) => number >= KEYWORDS,
         Class::Raw => true,
         Class::Ident => true,
         Class::Mark(_, _) => false,

@@ -7,7 +7,10 @@ ghost use Rattle.token_core.specs.Groups as groups;
 ghost use Rattle.token_core.specs.Marks as marks;
 ghost use Rattle.token_core.specs.Positions.{Holds};
 ghost use Rattle.token_core.specs.Prints as prints;
-ghost use Rattle.token_core.specs.Fronted.{KeepsFront};
+ghost use Rattle.token_core.specs.Fronted.{Fronted, KeepsFront, said};
+ghost use Rattle.token_core.specs.fronts.Options as options;
+ghost use Rattle.token_core.specs.Grammars as grammars;
+ghost use Rattle.token_core.specs.Headline.{Headline};
 ghost use Rattle.token_core.specs.Reads as spec;
 ghost use Rattle.token_core.specs.Reads.{Reads, Parsed, Keeps, Follows, Gives, Fails, Parses};
 ghost use Rattle.token_core.specs.Spans as spans;
@@ -171,8 +174,20 @@ pub type Underscore = Word<19>;
 /// `async`
 pub type Async = Word<21>;
 
+/// `enum`
+pub type Enum = Word<28>;
+
+/// `in`
+pub type In = Word<31>;
+
+/// `pub`
+pub type Pub = Word<40>;
+
 /// `struct`
 pub type Struct = Word<43>;
+
+/// `union`, which is an `Ident` too.
+pub type Union = Word<53>;
 
 impl<const N: u32, const LEN: usize> Default for Mark<N, LEN> {
     ghost is_default = { λ m. m ≡ marks.mark_of N LEN (spec.three spans.none spans.none spans.none) };
@@ -221,19 +236,33 @@ impl<const N: u32, const LEN: usize> Parse for Mark<N, LEN> {
 
     ghost refuses = { Fails (marks.read N LEN) };
 
-    #[tactic(auto, using(crate::specs::Reads::no_promise))]
+    ghost promise = { grammars.whole_mark N LEN };
+
+    ghost fronts = { said (grammars.mark N LEN) };
+
     fn parse(alloc: Global, input: &mut ParseStream<'_>) -> Result<Mark<N, LEN>, Error>
         ensures reads { Parsed (Gives (marks.read N LEN) input.old) (Fails (marks.read N LEN) input.old)
             result input.new }
         ensures within { Follows input.old input.new }
-        ensures promise { Keeps (λ _ _. Unit {0}) input.old result input.new }
+        ensures promise { Keeps (grammars.whole_mark N LEN) input.old result input.new }
+        ensures fronts { Fronted (grammars.mark N LEN) input.old result input.new }
         ensures same { OnErr result (input.new ≡ input.old) }
     {
-        let spans = input.read_mark(alloc, mark_chars(N), mark_name(N))?;
-        Ok(Mark {
-            spans: spread(spans),
-        })
+        parse_mark(alloc, input)
     }
+}
+
+fn parse_mark<const N: u32, const LEN: usize>(
+    alloc: Global,
+    input: &mut ParseStream<'_>,
+) -> Result<Mark<N, LEN>, Error>
+    ensures parses { Parses (marks.read N LEN) result input.old input.new }
+    ensures same { OnErr result (input.new ≡ input.old) }
+{
+    let spans = input.read_mark(alloc, mark_chars(N), mark_name(N))?;
+    Ok(Mark {
+        spans: spread(spans),
+    })
 }
 
 impl<const N: u32> Default for Word<N> {
@@ -272,11 +301,20 @@ impl<const N: u32> Parse for Word<N> {
 
     ghost refuses = { Fails (marks.read_named N) };
 
-    #[tactic(auto, using(crate::specs::Reads::no_promise))]
+    ghost promise = { Headline (grammars.word N).grammar };
+
+    ghost fronts = { said (grammars.word N) };
+
     fn parse(alloc: Global, input: &mut ParseStream<'_>) -> Result<Word<N>, Error> {
-        let ident = input.read_named(alloc, N)?;
-        Ok(Word { span: ident.span })
+        parse_word(alloc, input)
     }
+}
+
+fn parse_word<const N: u32>(alloc: Global, input: &mut ParseStream<'_>) -> Result<Word<N>, Error>
+    ensures parses { Parses (marks.read_named N) result input.old input.new }
+{
+    let ident = input.read_named(alloc, N)?;
+    Ok(Word { span: ident.span })
 }
 
 impl Token for Ident {
@@ -300,10 +338,19 @@ impl Parse for Ident {
 
     ghost refuses = { Fails (spec.read_word spec.is_ident spec.ident_name) };
 
-    #[tactic(auto, using(crate::specs::Reads::no_promise))]
+    ghost promise = { Headline grammars.ident.grammar };
+
+    ghost fronts = { said grammars.ident };
+
     fn parse(alloc: Global, input: &mut ParseStream<'_>) -> Result<Ident, Error> {
-        Ok(input.read_ident(alloc)?.copy(alloc)?)
+        parse_ident(alloc, input)
     }
+}
+
+fn parse_ident(alloc: Global, input: &mut ParseStream<'_>) -> Result<Ident, Error>
+    ensures parses { Parses (spec.read_word spec.is_ident spec.ident_name) result input.old input.new }
+{
+    Ok(input.read_ident(alloc)?.copy(alloc)?)
 }
 
 impl ToTokens for Ident {
@@ -598,6 +645,7 @@ impl<'a> ParseStream<'a> {
         ensures reads { Parsed (spec.OptionReads T.sees T.reads self.old) (spec.OptionRefuses T.sees T.refuses self.old)
             result self.new }
         ensures within { Follows self.old self.new }
+        ensures fronts { KeepsFront (options.options T.sees T.fronts) self.old result self.new }
     {
         if T::peek(self) {
             Ok(Some(T::parse(alloc, self)?))

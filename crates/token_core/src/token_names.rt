@@ -8,30 +8,30 @@ use crate::mark::{MARKS, mark_name};
 use crate::word::{WORDS, word_name};
 
 /// The number of the first that is no mark and no word: the numbers of the words follow those of the marks.
-const OTHERS: u32 = 80;
+const OTHERS: u32 = 81;
 
 // the others, in the order of their names below
-pub(crate) const IDENT: u8 = 80;
+pub(crate) const IDENT: u8 = 81;
 
-pub(crate) const LIFETIME: u8 = 81;
+pub(crate) const LIFETIME: u8 = 82;
 
-pub(crate) const LIT: u8 = 82;
+pub(crate) const LIT: u8 = 83;
 
-pub(crate) const LIT_STR: u8 = 83;
+pub(crate) const LIT_STR: u8 = 84;
 
-pub(crate) const PAREN: u8 = 84;
+pub(crate) const PAREN: u8 = 85;
 
-pub(crate) const BRACE: u8 = 85;
+pub(crate) const BRACE: u8 = 86;
 
-pub(crate) const BRACKET: u8 = 86;
+pub(crate) const BRACKET: u8 = 87;
 
-pub(crate) const INVISIBLE: u8 = 87;
+pub(crate) const INVISIBLE: u8 = 88;
 
 /// The number of a token without a name.
-const NAMELESS: u8 = 88;
+const NAMELESS: u8 = 89;
 
 /// How many tokens there are; all that have no name count as the last.
-pub(crate) const COUNT: usize = 89;
+pub(crate) const COUNT: usize = 90;
 
 /// Those that are no marks and no words, as refusals name them.
 static OTHER_NAMES: [&str; 8] = [

@@ -13,9 +13,12 @@ pub struct Word<const N: u32> {
 }
 
 /// How many words there are.
-pub(crate) const WORDS: u32 = 53;
+pub(crate) const WORDS: u32 = 54;
 
-/// The number of `builtin`, which is no keyword.
+/// How many of them are keywords. Those that follow are identifiers but in their places.
+pub(crate) const KEYWORDS: u8 = 52;
+
+/// The number of `builtin`.
 pub(crate) const BUILTIN: u8 = 52;
 
 /// The number of `true`.
@@ -24,9 +27,9 @@ pub(crate) const TRUE: u8 = 45;
 /// The number of `false`.
 pub(crate) const FALSE: u8 = 29;
 
-/// The words by their numbers, each with its name in refusals: the keywords, those that had a type first, and `builtin`. Types
-/// and proofs name a word by its number.
-static TABLE: [(&str, &str); 53] = [
+/// The words by their numbers, each with its name in refusals: the keywords, those that had a type first, and then
+/// `builtin` and `union`. Types and proofs name a word by its number.
+static TABLE: [(&str, &str); 54] = [
     ("Self", "`Self`"),
     ("self", "`self`"),
     ("super", "`super`"),
@@ -80,6 +83,7 @@ static TABLE: [(&str, &str); 53] = [
     ("while", "`while`"),
     ("yield", "`yield`"),
     ("builtin", "`builtin`"),
+    ("union", "`union`"),
 ];
 
 /// The text of the word of a number, none where the number names none.

@@ -5,12 +5,13 @@ use Rattle.token_text.specs.Pieces.{after_sign}
 use Rattle.token_text.specs.declared.class.Class.{Class}
 use Rattle.token_text.specs.declared.piece.Closing.{Closing}
 use Rattle.token_text.specs.declared.piece.Closing.TheVariants.{DoubleQuote, Hashes, Quote}
+use Rattle.token_text.specs.declared.piece.Docs.{Docs}
 use Rattle.token_text.specs.declared.piece.Piece.{Piece}
 use Rattle.token_core.specs.declared.tree.Delimiter.{Delimiter}
 use Rattle.token_core.specs.declared.tree.Delimiter.TheVariants as delimiters
 use Rattle.token_text.specs.Characters.{Text, upto}
 use Rattle.token_text.specs.Literals.{Run, run_ends, run_goes, IsWord, a_word, IsAnyWord, plain, raw, AreHashes, no_hash, a_hash, Opens, string, byte_string, c_string, raw_string, raw_byte_string, raw_c_string, char, byte, IsQuoted, double_quote, escape, other, IsHashed, here, later, IsChar, escaped, one, Closes, IsSuffix, none, suffix, IsBase, hexadecimal, octal, binary, IsDecimal, digits, IsFraction, whole, fraction, IsExponent, absent, exponent, IsNumber, of_base, decimal, IsComment, ends, inner_begins, inner_ends, goes_on}
-use Rattle.token_text.specs.Spelling.{IsPiece, blank, line_comment, block_comment, word, lifetime, literal, number, mark, opening, closing, opens, closes}
+use Rattle.token_text.specs.Spelling.{IsPiece, blank, line_comment, block_comment, line_doc, block_doc, word, lifetime, literal, number, mark, opening, closing, opens, closes}
 use Rattle.token_text.proofs.Words.{upto_front}
 
 pub data End : Text → Text → Type 0 where
@@ -31,18 +32,10 @@ end_trans (past e) f = past (end_trans e f)
 strict_trans : {cs ds es : Text} → Strict cs ds → End ds es → Strict cs es
 strict_trans (strict e) f = strict (end_trans e f)
 
-strict_after : {cs ds es : Text} → End cs ds → Strict ds es → Strict cs es
-strict_after all f = f
-strict_after (past e) f = strict (end_of (strict_after e f))
-
 end_drop : (n : ℕ) (cs : Text) → End cs (drop n cs)
 end_drop zero cs = all
 end_drop (suc n) [] = all
 end_drop (suc n) (c ∷ cs) = past (end_drop n cs)
-
-end_append : (w rest : Text) → End (w ++ rest) rest
-end_append [] rest = all
-end_append (c ∷ w) rest = past (end_append w rest)
 
 front_of_end : {cs rest : Text} → End cs rest → (w : Text) × (cs ≡ w ++ rest)
 front_of_end all = ([], refl)
@@ -153,10 +146,12 @@ closing_end delimiters.Brace rest = strict all
 closing_end delimiters.Bracket rest = strict all
 closing_end delimiters.None rest = strict (past all)
 
-piece_end : {p : Piece} {cs rest : Text} → IsPiece p cs rest → Strict cs rest
+piece_end : {docs : Docs} {p : Piece} {cs rest : Text} → IsPiece docs p cs rest → Strict cs rest
 piece_end (blank h) = strict all
 piece_end (line_comment h r) = strict (past (run_end r))
 piece_end (block_comment h c) = strict (past (comment_end c))
+piece_end (line_doc d h r e) = strict (past (run_end r))
+piece_end (block_doc d h c e) = strict (past (comment_end c))
 piece_end (word w n) = any_word_end w
 piece_end (lifetime h w) = strict (end_of (any_word_end w))
 piece_end (literal {how = how} o c s) = strict_trans (opens_end o) (end_trans (closes_end how c) (suffix_end s))
@@ -165,5 +160,5 @@ piece_end (mark h k) = strict all
 piece_end (opening {d = d} {rest = rest}) = opening_end d rest
 piece_end (closing {d = d} {rest = rest}) = closing_end d rest
 
-pub piece_splits : {p : Piece} {cs rest : Text} → IsPiece p cs rest → Splits cs (upto cs rest) rest
+pub piece_splits : {docs : Docs} {p : Piece} {cs rest : Text} → IsPiece docs p cs rest → Splits cs (upto cs rest) rest
 piece_splits {cs = cs} {rest = rest} p = strict_splits cs rest (piece_end p)

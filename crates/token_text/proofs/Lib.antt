@@ -17,3 +17,4 @@ mod StringLaws
 mod WholeLaws
 mod MovingLaws
 mod Escapes
+mod DocLaws

@@ -9,6 +9,7 @@ use Rattle.token_core.specs.Refusal.{Refusal, Stored, out_of_memory}
 use Rattle.token_core.specs.Stream.{Stream, started}
 use Rattle.token_core.specs.Toks.{Bytes, Toks}
 use Rattle.token_core.specs.Trees.{toks}
+use Rattle.token_text.specs.declared.piece.Docs.TheVariants.{Refuse}
 use Rattle.token_text.specs.Characters.{Text}
 use Rattle.token_text.specs.Spelling.{Spells, Refused as RefusedText}
 use Rattle.token_text.specs.Strings.{Content, Found, HasValue, Malformed, text_of}
@@ -18,13 +19,13 @@ use Rattle.token_text.proofs.StringLaws.{string_one, malformed_no, malformed_one
 use Rattle.token_text.proofs.TextLaws.{lexed_spelled, lexed_refused}
 
 spells_no : {text : Bytes} {l : List TokenTree} {e : Refusal} → Spells text l → RefusedText text e → ⊥
-spells_no {text} {l} {e} s r = let bad = sym (lexed_spelled text l s) ∙ lexed_refused text e r in cc
+spells_no {text} {l} {e} s r = let bad = sym (lexed_spelled Refuse text l s) ∙ lexed_refused Refuse text e r in cc
 
 spells_one : (text : Bytes) (l m : List TokenTree) → Spells text l → Spells text m → l ≡ m
-spells_one text l m s t = let e = sym (lexed_spelled text l s) ∙ lexed_spelled text m t in cc
+spells_one text l m s t = let e = sym (lexed_spelled Refuse text l s) ∙ lexed_spelled Refuse text m t in cc
 
 refused_one_text : {text : Bytes} {e f : Refusal} → RefusedText text e → RefusedText text f → e ≡ f
-refused_one_text {text} {e} {f} r t = let h = sym (lexed_refused text e r) ∙ lexed_refused text f t in cc
+refused_one_text {text} {e} {f} r t = let h = sym (lexed_refused Refuse text e r) ∙ lexed_refused Refuse text f t in cc
 
 -- ---- values
 

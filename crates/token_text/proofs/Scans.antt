@@ -1,8 +1,8 @@
 -- The steps of the functions that look for an end.
 use Rattle.std.proofs.Common.{◌≡◌, ℕ, suc, ◌+◌, ◌-◌, Bool, true, false, not, ◌&&◌, ◌||◌, ◌==◌, if◌then◌else◌, [], ◌∷◌, drop, Some, None, refl, ap, eq-eqb}
 use Rattle.std.proofs.lemmas.Bool.{eqb-true}
-use Rattle.token_text.specs.Pieces.{has_hashes}
-use Rattle.token_text.specs.Characters.{Text}
+use Rattle.token_text.specs.Pieces.{has_hashes, is_char, has_lone_return}
+use Rattle.token_text.specs.Characters.{Text, begins_with}
 use Rattle.token_text.specs.Front.{comment, hashes, quoted, hashed, after_char}
 
 pub not_same : (a b : ℕ) → ¬ (a ≡ b) → (a == b) ≡ false
@@ -117,3 +117,18 @@ hashed_over n cs ds c e h k = rw (e, eq-eqb c 34 h, k) refl
 pub hashed_goes : (n : ℕ) (cs ds : Text) (c : ℕ) → cs ≡ c ∷ ds → ¬ (c ≡ 34) → hashed n cs ≡ hashed n ds
 unfolding hashed
 hashed_goes n cs ds c e h = rw (e, not_same c 34 h) refl
+
+-- ---- carriage returns
+
+pub lone_none : (cs : Text) → cs ≡ [] → has_lone_return cs ≡ false
+unfolding has_lone_return
+lone_none cs e = rw e refl
+
+pub lone_here : (cs ds : Text) (c : ℕ) (b : Bool) → cs ≡ c ∷ ds → b ≡ begins_with (is_char 10) ds → (c == 13 && not b) ≡ true → has_lone_return cs ≡ true
+unfolding has_lone_return
+lone_here cs ds c b e f h = rw (e, ← f, h) refl
+
+pub lone_goes : (cs ds : Text) (c : ℕ) (b : Bool) → cs ≡ c ∷ ds → b ≡ begins_with (is_char 10) ds → (c == 13 && not b) ≡ false
+    → has_lone_return cs ≡ has_lone_return ds
+unfolding has_lone_return
+lone_goes cs ds c b e f h = rw (e, ← f, h) refl

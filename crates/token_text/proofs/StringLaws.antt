@@ -9,9 +9,9 @@ use Rattle.token_core.specs.Lits.{is_str}
 use Rattle.token_core.specs.Refusal.{Refusal, Stored, out_of_memory}
 use Rattle.token_core.specs.Toks.{Bytes}
 use Rattle.token_text.specs.declared.piece.Closing.{Closing}
-use Rattle.token_text.specs.Characters.{Text, size, upto}
+use Rattle.token_text.specs.Characters.{Text, size, upto, is_nothing}
 use Rattle.token_text.specs.Front.{Opening, Past, after_suffix, opening}
-use Rattle.token_text.specs.Strings.{Shown, shown, after_closing, inside, between, Held, held, Holds, nothing, a_char, a_break, no_string, Content, Reaches, IsString, text_of, places_of, at_place, bad_escape, escape_text, is_nothing, stuck, Malformed, unopened, inner, more, Taken, Adds, Found}
+use Rattle.token_text.specs.Strings.{Shown, shown, after_closing, inside, between, Held, held, Holds, nothing, a_char, a_break, no_string, Content, Reaches, IsString, text_of, places_of, at_place, bad_escape, escape_text, stuck, Malformed, unopened, inner, more, Taken, Adds, Found}
 use Rattle.token_text.proofs.Words.{spelled_so}
 use Rattle.token_text.proofs.Scans.{not_same}
 use Rattle.token_core.specs.Spans.{span}

@@ -1,6 +1,6 @@
 -- Steps over the characters of a text.
-use Rattle.std.proofs.Common.{◌≡◌, ℕ, ◌<◌, ◌-◌, Bool, true, false, cond, ◌==◌, List, [], ◌∷◌, ◌++◌, length, chars, encode_utf8, encode_utf8_all, Some, None, refl, sym, ap, ◌∙◌, arith, length-append, take_at}
-use Rattle.std.proofs.lemmas.Str.{length-encode, len_utf8_bounds}
+use Rattle.std.proofs.Common.{◌≡◌, ℕ, ◌<◌, ◌-◌, Bool, true, false, cond, ◌==◌, List, [], ◌∷◌, ◌++◌, length, chars, encode_utf8, encode_utf8_all, IsUtf8, Some, None, refl, sym, ap, ◌∙◌, arith, length-append, take_at}
+use Rattle.std.proofs.lemmas.Str.{length-encode, len_utf8_bounds, chars_from_encodes}
 use Rattle.std.proofs.lemmas.Bool.{eqb-true}
 use Rattle.std.proofs.lemmas.List.{append_cancel_right}
 use Rattle.token_text.specs.declared.class.Class.{Class}
@@ -21,6 +21,12 @@ pub spelled_so : (text w rest : List ℕ) → Past text rest → text ≡ w ++ r
 spelled_so text w rest p e =
     ap (λ t. encode_utf8_all (upto t (chars rest))) p.whole ∙ ap encode_utf8_all (upto_front p.front (chars rest))
     ∙ append_cancel_right (encode_utf8_all p.front) w rest (sym p.split ∙ e)
+
+-- and these are its characters
+pub chars_upto : (text w rest : List ℕ) → Past text rest → text ≡ w ++ rest → IsUtf8 w → chars w ≡ upto (chars text) (chars rest)
+chars_upto text w rest p e u =
+    let same : encode_utf8_all p.front ≡ w = append_cancel_right (encode_utf8_all p.front) w rest (sym p.split ∙ e) in
+    sym (chars_from_encodes p.front w u same) ∙ sym (ap (λ t. upto t (chars rest)) p.whole ∙ upto_front p.front (chars rest))
 
 -- a step over a character of a class
 pub run_goes_on : (p : Class) (cs ds : Text) (c : ℕ) → cs ≡ c ∷ ds → passes p c ≡ true → after_run p cs ≡ after_run p ds

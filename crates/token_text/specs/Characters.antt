@@ -1,5 +1,5 @@
 -- Texts by their characters, and what the characters are to a text of Rust.
-use Rattle.std.specs.Prelude.{ℕ, Bool, false, not, ◌||◌, ◌-◌, ◌==◌, if◌then◌else◌, List, [], ◌∷◌, length, take, codes, encode_utf8_all}
+use Rattle.std.specs.Prelude.{ℕ, Bool, true, false, not, ◌||◌, ◌-◌, ◌==◌, if◌then◌else◌, List, [], ◌∷◌, length, take, codes, encode_utf8_all}
 use Rattle.std.specs.Char.{is_ascii_digit, is_ascii_hexdigit}
 use Rattle.std.specs.List.{list_any}
 use Rattle.unicode_ident.specs.Ident.{is_xid_start, is_xid_continue}
@@ -21,6 +21,10 @@ upto cs rest = take (length cs - length rest) cs
 abbrev pub begins_with : (ℕ → Bool) → Text → Bool
 begins_with p [] = false
 begins_with p (c ∷ cs) = p c
+
+abbrev pub is_nothing : Text → Bool
+is_nothing [] = true
+is_nothing (c ∷ cs) = false
 
 abbrev pub is_blank : ℕ → Bool
 is_blank c = list_any (λ d. d == c) (codes " \t\n\r")

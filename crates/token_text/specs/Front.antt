@@ -12,16 +12,15 @@ use Rattle.token_text.specs.declared.class.Class.{Class}
 use Rattle.token_text.specs.declared.class.Class.TheVariants.{Continue, Binary, Octal, Decimal, Hexadecimal, NoQuote, NoLineFeed}
 use Rattle.token_text.specs.declared.piece.Closing.{Closing}
 use Rattle.token_text.specs.declared.piece.Closing.TheVariants.{DoubleQuote, Hashes, Quote}
-use Rattle.token_text.specs.declared.piece.Leaf.TheVariants.{Blank, Word, Lifetime, Literal, Mark}
+use Rattle.token_text.specs.declared.piece.Docs.{Docs}
+use Rattle.token_text.specs.declared.piece.Docs.TheVariants.{Refuse, Read}
+use Rattle.token_text.specs.declared.piece.Form.{Form}
+use Rattle.token_text.specs.declared.piece.Form.TheVariants.{Line, Block}
+use Rattle.token_text.specs.declared.piece.Leaf.TheVariants.{Blank, Doc, Word, Lifetime, Literal, Mark}
 use Rattle.token_text.specs.declared.piece.Piece.{Piece}
 use Rattle.token_text.specs.declared.piece.Piece.TheVariants.{Leaf, Open, Close}
 use Rattle.token_text.specs.Characters.{Text, upto, begins_with, is_blank, is_mark, is_letter, is_start, after_run, starts}
-use Rattle.token_text.specs.Pieces.{has_raw_form, is_char, begins_char, has_hashes, after_sign, is_e, spacing, is_line_doc, is_block_doc}
-
--- what follows the first character
-abbrev pub tail : Text → Text
-tail [] = []
-tail (c ∷ cs) = cs
+use Rattle.token_text.specs.Pieces.{has_raw_form, is_char, begins_char, has_hashes, after_sign, is_e, spacing, is_line_doc, is_block_doc, style_of, has_lone_return}
 
 -- what follows this character
 abbrev pub after_char : ℕ → Text → Option Text
@@ -222,18 +221,37 @@ mark_piece c rest = Leaf (Mark c (spacing rest))
 abbrev pub marked : ℕ → Text → Look
 marked c rest = Ok (mark_piece c rest, rest)
 
+-- a comment of documentation up to `rest`, which may have no carriage return by itself in these characters
+abbrev pub doc_in : Form → Text → Text → Text → Look
+doc_in f cs rest w = if has_lone_return w then Err UnknownToken else Ok (Leaf (Doc (style_of cs) f), rest)
+
+abbrev pub line_doc_to : Text → Text → Look
+line_doc_to cs rest = doc_in Line cs rest (upto cs (drop 1 rest))
+
+unfoldable pub line_doc : Docs → Text → Look
+line_doc Refuse cs = Err DocComment
+line_doc Read cs = line_doc_to cs (after_run NoLineFeed cs)
+
+abbrev pub block_doc_to : Text → Option Text → Look
+block_doc_to cs None = Err UnterminatedToken
+block_doc_to cs (Some rest) = doc_in Block cs rest (upto cs rest)
+
+unfoldable pub block_doc : Docs → Text → Look
+block_doc Refuse cs = Err DocComment
+block_doc Read cs = block_doc_to cs (comment 0 cs)
+
 -- after `//`
-unfoldable pub line_comment : Text → Look
-line_comment cs = if is_line_doc cs then Err DocComment else Ok (Leaf Blank, after_run NoLineFeed cs)
+unfoldable pub line_comment : Docs → Text → Look
+line_comment docs cs = if is_line_doc cs then line_doc docs cs else Ok (Leaf Blank, after_run NoLineFeed cs)
 
 -- after `/*`
-unfoldable pub block_comment : Text → Look
-block_comment cs = if is_block_doc cs then Err DocComment else ends (Leaf Blank) (comment 0 cs)
+unfoldable pub block_comment : Docs → Text → Look
+block_comment docs cs = if is_block_doc cs then block_doc docs cs else ends (Leaf Blank) (comment 0 cs)
 
 -- after `/`
-unfoldable pub slash : Text → Look
-slash [] = marked 47 []
-slash (c ∷ cs) = if c == 47 then line_comment cs else (if c == 42 then block_comment cs else marked 47 (c ∷ cs))
+unfoldable pub slash : Docs → Text → Look
+slash docs [] = marked 47 []
+slash docs (c ∷ cs) = if c == 47 then line_comment docs cs else (if c == 42 then block_comment docs cs else marked 47 (c ∷ cs))
 
 -- after `\`
 unfoldable pub backslash : Text → Look
@@ -265,22 +283,22 @@ plain c cs =
     if c == 98 && begins_with (is_char 39) cs then Err UnknownToken
     else (if is_ascii_digit c then numeral (number c cs) else word_or_single c cs (any_word (c ∷ cs)))
 
-unfoldable pub unopened : ℕ → Text → Look
-unopened c cs =
-    if c == 47 then slash cs
+unfoldable pub unopened : Docs → ℕ → Text → Look
+unopened docs c cs =
+    if c == 47 then slash docs cs
     else (if c == 39 then known lifetime_piece (any_word cs)
     else (if c == 92 then backslash cs else plain c cs))
 
-abbrev pub other : Text → Look
-other [] = Err UnknownToken
-other (c ∷ cs) = unopened c cs
+abbrev pub other : Docs → Text → Look
+other docs [] = Err UnknownToken
+other docs (c ∷ cs) = unopened docs c cs
 
-abbrev pub opened_or_other : Text → Option Opening → Look
-opened_or_other cs None = other cs
-opened_or_other cs (Some x) = literal x.0 (closed x.1 x.2)
+abbrev pub opened_or_other : Docs → Text → Option Opening → Look
+opened_or_other docs cs None = other docs cs
+opened_or_other docs cs (Some x) = literal x.0 (closed x.1 x.2)
 
-unfoldable pub look : Text → Look
-look cs = opened_or_other cs (opening cs)
+unfoldable pub look : Docs → Text → Look
+look docs cs = opened_or_other docs cs (opening cs)
 
 -- a piece, its characters, and the text after it
 pub record Found : Type 0 where
@@ -295,8 +313,8 @@ abbrev pub found_in : Text → Look → Result Found ErrorKind
 found_in cs (Ok x) = Ok (found x.0 (upto cs x.1) x.1)
 found_in cs (Err e) = Err e
 
-unfoldable pub front : Text → Result Found ErrorKind
-front cs = found_in cs (look cs)
+unfoldable pub front : Docs → Text → Result Found ErrorKind
+front docs cs = found_in cs (look docs cs)
 
 -- ---- what the functions that look for pieces answer
 

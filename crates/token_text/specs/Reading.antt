@@ -14,6 +14,8 @@ use Rattle.token_core.specs.Toks.{Bytes}
 use Rattle.token_core.specs.Trees.{trees}
 use Rattle.token_text.specs.declared.state.Open as code_open
 use Rattle.token_text.specs.declared.state.State as code
+use Rattle.token_text.specs.declared.piece.Docs.{Docs}
+use Rattle.token_text.specs.declared.piece.Docs.TheVariants.{Refuse, Read}
 use Rattle.token_text.specs.declared.piece.Leaf as leaves
 use Rattle.token_text.specs.declared.piece.Piece.{Piece}
 use Rattle.token_text.specs.declared.piece.Piece.TheVariants.{Leaf, Open, Close}
@@ -91,13 +93,20 @@ turn at c x (Err k) = Err (faulty k at c)
 turn at c x (Ok f) = with_more (length f.spelled - 1) (act (span at (at + size f.spelled)) (encode_utf8_all f.spelled) f.piece x)
 
 -- The trees of a text that begins at an offset, or the refusal. The first number counts the characters that are left of a piece.
-unfoldable pub reads : ℕ → ℕ → State → Text → Result (List TokenTree) Refusal
-reads left at x [] = finish x
-reads (suc left) at x (c ∷ cs) = reads left (at + len_utf8 c) x cs
-reads zero at x (c ∷ cs) = elim (turn at c x (front (c ∷ cs))) [ Ok y ↦ reads y.1 (at + len_utf8 c) y.0 cs | Err e ↦ Err e ]
+unfoldable pub reads : Docs → ℕ → ℕ → State → Text → Result (List TokenTree) Refusal
+reads docs left at x [] = finish x
+reads docs (suc left) at x (c ∷ cs) = reads docs left (at + len_utf8 c) x cs
+reads docs zero at x (c ∷ cs) = elim (turn at c x (front docs (c ∷ cs))) [ Ok y ↦ reads docs y.1 (at + len_utf8 c) y.0 cs | Err e ↦ Err e ]
+
+abbrev pub lexed_with : Docs → Bytes → Result (List TokenTree) Refusal
+lexed_with docs text = reads docs 0 0 start (chars text)
 
 abbrev pub lexed : Bytes → Result (List TokenTree) Refusal
-lexed text = reads 0 0 start (chars text)
+lexed text = lexed_with Refuse text
+
+-- the same where comments of documentation are read
+abbrev pub lexed_documented : Bytes → Result (List TokenTree) Refusal
+lexed_documented text = lexed_with Read text
 
 -- ---- how results stand to what is read
 

@@ -139,10 +139,6 @@ unless_closed None o = o
 unfoldable pub shown : Closing → Text → Option Shown
 shown how cs = unless_closed (after_closing how cs) (unit how cs)
 
-abbrev pub is_nothing : Text → Bool
-is_nothing [] = true
-is_nothing (c ∷ cs) = false
-
 -- ---- places
 
 -- A place in a literal's text: where that literal stands in a text it is the place there, and else the literal's.

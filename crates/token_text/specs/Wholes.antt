@@ -8,7 +8,9 @@ use Rattle.token_core.specs.Spans.{span}
 use Rattle.token_core.specs.Stream.{Stream, started}
 use Rattle.token_core.specs.Toks.{Bytes, Toks}
 use Rattle.token_core.specs.Trees.{toks}
-use Rattle.token_text.specs.Spelling.{Spells, Refused}
+use Rattle.token_text.specs.declared.piece.Docs.{Docs}
+use Rattle.token_text.specs.declared.piece.Docs.TheVariants.{Refuse}
+use Rattle.token_text.specs.Spelling.{SpellsWith, RefusedWith}
 
 -- the place of a text's end
 abbrev pub text_end : Bytes → Span
@@ -19,19 +21,33 @@ abbrev pub RefusedSo : {A : Type 0} → Refusal → Result A Refusal → Type 0
 RefusedSo e r = MatchResult r (λ _. ⊥) (λ f. (f ≡ e) ⊎ (f ≡ out_of_memory))
 
 -- a whole read of the tokens that the text spells, in the scope of its end
-abbrev pub Reads : {A : Type 0} → (Stream → A → Stream → Type 0) → (Stream → Refusal → Type 0) → Bytes → Result A Refusal → Type 0
-Reads reads refuses text r = (l : List TokenTree) → Spells text l → WholeRead reads refuses (started (text_end text) (toks l)) r
+abbrev pub ReadsWith : {A : Type 0} → Docs → (Stream → A → Stream → Type 0) → (Stream → Refusal → Type 0) → Bytes → Result A Refusal → Type 0
+ReadsWith docs reads refuses text r = (l : List TokenTree) → SpellsWith docs text l → WholeRead reads refuses (started (text_end text) (toks l)) r
 
 -- what is promised of these tokens
-abbrev pub Keeps : {A : Type 0} → (Toks → Option A → Type 0) → Bytes → Result A Refusal → Type 0
-Keeps promise text r = (l : List TokenTree) → Spells text l → Promised (promise (toks l)) r
+abbrev pub KeepsWith : {A : Type 0} → Docs → (Toks → Option A → Type 0) → Bytes → Result A Refusal → Type 0
+KeepsWith docs promise text r = (l : List TokenTree) → SpellsWith docs text l → Promised (promise (toks l)) r
 
 -- what the text itself is refused for
-abbrev pub Refuses : {A : Type 0} → Bytes → Result A Refusal → Type 0
-Refuses text r = (e : Refusal) → Refused text e → RefusedSo e r
+abbrev pub RefusesWith : {A : Type 0} → Docs → Bytes → Result A Refusal → Type 0
+RefusesWith docs text r = (e : Refusal) → RefusedWith docs text e → RefusedSo e r
 
 -- An answer is that of tokens which the text spells; a refusal is for memory, one that the text has, or one of a read of tokens which it spells.
+abbrev pub ToldWith : {A : Type 0} → Docs → Bytes → Result A Refusal → Type 0
+ToldWith docs text r =
+    MatchResult r (λ _. (l : List TokenTree) × SpellsWith docs text l)
+    (λ e. (e ≡ out_of_memory) ⊎ RefusedWith docs text e ⊎ ((l : List TokenTree) × SpellsWith docs text l))
+
+-- the same where comments of documentation are refused
+
+abbrev pub Reads : {A : Type 0} → (Stream → A → Stream → Type 0) → (Stream → Refusal → Type 0) → Bytes → Result A Refusal → Type 0
+Reads reads refuses text r = ReadsWith Refuse reads refuses text r
+
+abbrev pub Keeps : {A : Type 0} → (Toks → Option A → Type 0) → Bytes → Result A Refusal → Type 0
+Keeps promise text r = KeepsWith Refuse promise text r
+
+abbrev pub Refuses : {A : Type 0} → Bytes → Result A Refusal → Type 0
+Refuses text r = RefusesWith Refuse text r
+
 abbrev pub Told : {A : Type 0} → Bytes → Result A Refusal → Type 0
-Told text r =
-    MatchResult r (λ _. (l : List TokenTree) × Spells text l)
-    (λ e. (e ≡ out_of_memory) ⊎ Refused text e ⊎ ((l : List TokenTree) × Spells text l))
+Told text r = ToldWith Refuse text r

@@ -6,19 +6,14 @@ ghost use Rattle.token_text.specs.Front as spec;
 ghost use Rattle.token_text.specs.Pieces as pieces;
 
 use crate::class::is_blank;
-use crate::piece::{Closing, Leaf, Piece};
+use crate::piece::{Closing, Docs, Leaf, Piece};
 use crate::{comment, literal, number, word};
 use token_core::{Delimiter, ErrorKind, LitKind, Spacing};
-
-const MARKS: [char; 21] = [
-    '!', '#', '$', '%', '&', '*', '+', ',', '-', '.', '/', ':', ';', '<', '=', '>', '?', '@', '^',
-    '~', '|',
-];
 
 fn is_mark(ch: char) -> bool
     ensures { result ≡ c.is_mark ch }
 {
-    MARKS.contains(&ch)
+    matches!(ch, '!' | '#'..='&' | '*'..='/' | ':'..='@' | '^' | '|' | '~')
 }
 
 /// Whether a mark belongs with what follows it.
@@ -41,12 +36,12 @@ fn mark(ch: char, rest: &str) -> Piece
 
 /// A comment, or the mark `/`, before `rest`.
 #[tactic(auto, using(crate::proofs::Pasts::pasts), unfolding(crate::specs::Front::slash))]
-fn slash(rest: &str) -> Result<(Piece, &str), ErrorKind>
-    ensures { spec.Tells (spec.slash (chars rest.now)) rest.now result }
+fn slash(rest: &str, docs: Docs) -> Result<(Piece, &str), ErrorKind>
+    ensures { spec.Tells (spec.slash docs (chars rest.now)) rest.now result }
 {
     match word::split_first(rest) {
-        Some(('/', after)) => comment::line(after),
-        Some(('*', after)) => comment::block(after),
+        Some(('/', after)) => comment::line(after, docs),
+        Some(('*', after)) => comment::block(after, docs),
         Some(_) => Ok((mark('/', rest), rest)),
         None => Ok((mark('/', rest), rest)),
     }
@@ -139,12 +134,17 @@ fn plain<'a>(text: &'a str, first: char, rest: &'a str) -> Result<(Piece, &'a st
 
 /// What is no literal with a beginning and an end; `text` is the character and `rest`.
 #[tactic(auto, using(crate::proofs::Pasts::pasts), unfolding(crate::specs::Front::unopened))]
-fn unopened<'a>(text: &'a str, first: char, rest: &'a str) -> Result<(Piece, &'a str), ErrorKind>
+fn unopened<'a>(
+    text: &'a str,
+    first: char,
+    rest: &'a str,
+    docs: Docs,
+) -> Result<(Piece, &'a str), ErrorKind>
     requires { (chars text.now ≡ first ∷ chars rest.now) × spec.Past text.now rest.now }
-    ensures { spec.Tells (spec.unopened first (chars rest.now)) text.now result }
+    ensures { spec.Tells (spec.unopened docs first (chars rest.now)) text.now result }
 {
     match first {
-        '/' => slash(rest),
+        '/' => slash(rest, docs),
         '\'' => lifetime(rest),
         '\\' => backslash(rest),
         _ => plain(text, first, rest),
@@ -164,14 +164,14 @@ fn enclosed(kind: LitKind, closing: Closing, body: &str) -> Result<(Piece, &str)
 
 /// The longest piece at the front and what follows it, or why none begins there.
 #[tactic(auto, using(crate::proofs::Pasts::pasts), unfolding(crate::specs::Front::look))]
-pub fn front(text: &str) -> Result<(Piece, &str), ErrorKind>
-    ensures { spec.Tells (spec.look (chars text.now)) text.now result }
+pub fn front(text: &str, docs: Docs) -> Result<(Piece, &str), ErrorKind>
+    ensures { spec.Tells (spec.look docs (chars text.now)) text.now result }
 {
     if let Some((kind, closing, body)) = literal::opening(text) {
         return enclosed(kind, closing, body);
     }
     match word::split_first(text) {
-        Some((first, rest)) => unopened(text, first, rest),
+        Some((first, rest)) => unopened(text, first, rest, docs),
         None => Err(ErrorKind::UnknownToken),
     }
 }

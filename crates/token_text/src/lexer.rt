@@ -1,13 +1,20 @@
 //! Text to tokens.
 
-ghost use Rattle.std.specs.Prelude.{◌≡◌, ◌⊎◌, List, IfOk, IfErr, MatchResult};
+ghost use Rattle.std.specs.Prelude.{◌≡◌, ◌⊎◌, List, IfOk, IfErr, IsUtf8, MatchResult, chars, encode_utf8_all};
+ghost use Rattle.token_core.specs.declared.span.Span.{Span};
 ghost use Rattle.token_core.specs.declared.tree.TokenTree.{TokenTree};
+ghost use Rattle.token_core.specs.Lits.{lit_str};
 ghost use Rattle.token_core.specs.Refusal.{Refusal, out_of_memory};
+ghost use Rattle.token_core.specs.Toks.{Bytes};
 ghost use Rattle.token_core.specs.Trees.{trees};
+ghost use Rattle.token_text.specs.declared.piece.Form.{Form};
+ghost use Rattle.token_text.specs.Pieces.{doc_literal, doc_text};
 ghost use Rattle.token_text.specs.Reading as spec;
-ghost use Rattle.token_text.specs.Spelling.{Spells, Refused};
+ghost use Rattle.token_text.specs.Strings.{HasValue};
+ghost use Rattle.token_text.specs.Spelling.{Spells, SpellsDocumented, SpellsWith, Refused, RefusedDocumented, RefusedWith};
 
 use crate::front::front;
+use crate::piece::Docs;
 use crate::state::State;
 use crate::word;
 use std::alloc::Global;
@@ -52,17 +59,53 @@ pub fn lex(alloc: Global, text: &str) -> Result<TokenStream, Error>
     // The same by a function of the text.
     ensures exact { spec.Gives trees result (spec.lexed text.now) }
 {
-    read(alloc, text)
+    lex_with(alloc, text, Docs::Refuse)
 }
 
-fn read(alloc: Global, text: &str) -> Result<TokenStream, Error>
-    ensures { spec.Gives trees result (spec.lexed text.now) }
+/// Reads the tokens of a text, as `lex` does, and each comment of documentation as the attribute that it stands for.
+///
+/// `/// A.` and `/** A. */` are `# [doc = " A."]` and `# [doc = " A. "]`, and `//! A.` and `/*! A. */` the same with `!` behind the `#`.
+/// What a comment says is what follows its first three characters, up to the end of the line, of which a carriage return is no part,
+/// or up to `*/`. `lit_str_value` answers it of the literal, in which a line feed, a carriage return, a tab, a zero, `"` and `\` stand
+/// by an escape. Each token, and either bracket, stands where the comment stands. `////`, `/***` and `/**/` begin plain comments.
+///
+/// A text is refused where `lex` refuses it, but for such comments; where one has a carriage return without a line feed behind it, it is
+/// an unknown start of a token. (In proc-macro2 `TokenStream::from_str`.)
+pub fn lex_documented(alloc: Global, text: &str) -> Result<TokenStream, Error>
+    ensures read { IfOk result (λ s. SpellsDocumented text.now (trees s)) }
+    ensures all { (l : List TokenTree) → SpellsDocumented text.now l →
+        MatchResult result (λ s. trees s ≡ l) (λ e. e ≡ out_of_memory) }
+    ensures refused { IfErr result (λ e. (e ≡ out_of_memory) ⊎ RefusedDocumented text.now e) }
+    ensures refuses { (e : Refusal) → RefusedDocumented text.now e →
+        MatchResult result (λ _. ⊥) (λ r. (r ≡ e) ⊎ (r ≡ out_of_memory)) }
+    ensures exact { spec.Gives trees result (spec.lexed_documented text.now) }
+    // The literal of such a comment, whose bytes these are, holds what the comment says.
+    ensures says { (f : Form) (b : Bytes) (s : Span) → IsUtf8 b →
+        HasValue (lit_str (doc_literal f b) s) (encode_utf8_all (doc_text f (chars b))) }
+{
+    lex_with(alloc, text, Docs::Read)
+}
+
+pub fn lex_with(alloc: Global, text: &str, docs: Docs) -> Result<TokenStream, Error>
+    ensures read { IfOk result (λ s. SpellsWith docs text.now (trees s)) }
+    ensures all { (l : List TokenTree) → SpellsWith docs text.now l →
+        MatchResult result (λ s. trees s ≡ l) (λ e. e ≡ out_of_memory) }
+    ensures refused { IfErr result (λ e. (e ≡ out_of_memory) ⊎ RefusedWith docs text.now e) }
+    ensures refuses { (e : Refusal) → RefusedWith docs text.now e →
+        MatchResult result (λ _. ⊥) (λ r. (r ≡ e) ⊎ (r ≡ out_of_memory)) }
+    ensures exact { spec.Gives trees result (spec.lexed_with docs text.now) }
+{
+    read(alloc, text, docs)
+}
+
+fn read(alloc: Global, text: &str, docs: Docs) -> Result<TokenStream, Error>
+    ensures { spec.Gives trees result (spec.lexed_with docs text.now) }
 {
     let mut state = State::new(alloc);
     let mut rest = word::after_blanks(text);
     while let Some((first, _)) = word::split_first(rest) {
         let at = text.len() - rest.len();
-        match front(rest) {
+        match front(rest, docs) {
             Ok((piece, after)) => {
                 let span = Span::new(at, text.len() - after.len());
                 state.take(piece, word::up_to(rest, after), span)?;

@@ -10,7 +10,8 @@ ghost use Rattle.token_text.specs.Strings.{Found, HasValue, Malformed};
 ghost use Rattle.token_text.specs.Wholes.{RefusedSo};
 
 use crate::lexer::lex;
-use crate::string::{Content, inside, is_end, malformed, offset, read_content};
+use crate::string::{Content, inside, malformed, offset, read_content};
+use crate::word;
 use std::alloc::Global;
 use token_core::{ByParse, Error, LitStr, Parse, Parser, TokenStream, read_scoped};
 
@@ -82,7 +83,7 @@ fn tokens(alloc: Global, lit: &LitStr, content: &Content<'_>) -> Result<TokenStr
     ensures held { IfOk result (λ l. spec.HoldsTokens lit.now content.now.closing (trees l)) }
     ensures refused { IfErr result (λ e. (e ≡ out_of_memory) ⊎ spec.Refused lit.now e) }
 {
-    if !is_end(content.suffix) {
+    if !word::is_end(content.suffix) {
         return Err(suffixed(alloc, lit, content.suffix));
     }
     match lex(alloc, content.held.text.as_str()) {

@@ -5,11 +5,23 @@ ghost use Rattle.token_text.specs.Characters.{size};
 ghost use Rattle.token_text.specs.Front.{Past};
 ghost use Rattle.token_text.specs.Note as spec;
 
-use crate::class::Class;
-use crate::word::{after_run, split_first, up_to};
+use crate::front::front;
+use crate::piece::{Docs, Leaf, Piece};
+use crate::word::{begins, split_first, up_to};
 use std::alloc::{AllocError, Global};
-use token_core::Error;
+use token_core::{Error, ErrorKind};
 use unicode_width::UnicodeWidthChar;
+
+/// Characters that show nothing or change how the text about them is shown, beside those of control: soft hyphens, joiners, spaces without a
+/// width, marks of direction and of order, fillers, and the byte order mark.
+const HIDDEN: [char; 45] = [
+    '\u{ad}', '\u{34f}', '\u{61c}', '\u{115f}', '\u{1160}', '\u{17b4}', '\u{17b5}', '\u{180b}',
+    '\u{180c}', '\u{180d}', '\u{180e}', '\u{200b}', '\u{200c}', '\u{200d}', '\u{200e}', '\u{200f}',
+    '\u{2028}', '\u{2029}', '\u{202a}', '\u{202b}', '\u{202c}', '\u{202d}', '\u{202e}', '\u{2060}',
+    '\u{2061}', '\u{2062}', '\u{2063}', '\u{2064}', '\u{2065}', '\u{2066}', '\u{2067}', '\u{2068}',
+    '\u{2069}', '\u{206a}', '\u{206b}', '\u{206c}', '\u{206d}', '\u{206e}', '\u{206f}', '\u{3164}',
+    '\u{feff}', '\u{ffa0}', '\u{fff9}', '\u{fffa}', '\u{fffb}',
+];
 
 /// What a refusal of a text says and where it points, for people:
 ///
@@ -19,14 +31,33 @@ use unicode_width::UnicodeWidthChar;
 ///     ^^^^
 /// ```
 ///
-/// NAME is the text's own, as that of its file. Lines and columns are counted from 1, columns as a terminal shows them: a wide character takes
-/// two, a tab and any other control character one. Under the line each tab stands again, so that the marks stand under the place however wide
-/// tabs are shown. The marks go from where the refusal begins to where it ends (`place_of`), no further than its line, and are one at least. A place
-/// in a character is its front, a place past the text its end; a line feed that ends a text ends its last line.
+/// NAME is the text's own, as that of its file. The line ends before its line feed, or its carriage return and line feed. In it each character of
+/// control but the tab stands as its picture (U+2400 to U+2421), or, from U+0080 on, as its number, so that none reaches a terminal; characters
+/// that show nothing, such as the byte order mark, stand as their numbers too: `<U+FEFF>`.
 ///
-/// The note doesn't end in a line feed. It is refused for want of memory alone.
+/// Lines and columns are counted from 1, columns as a terminal shows the line of the note: a wide character takes two, a tab one. Under the line
+/// each tab stands again, so that the marks stand under the place however wide tabs are shown. The marks go from where the refusal begins to where
+/// it ends (`place_of`), no further than its line, and are one at least. A place in a character is its front. The end of the text, and what is past
+/// it, is shown directly after the last token: not in an empty line, nor behind a comment.
+///
+/// That memory ran out has no place: its note is `NAME: TEXT`. No note ends in a line feed. One is refused for want of memory alone.
 pub fn note(alloc: Global, name: &str, text: &str, refusal: &Error) -> Result<String, AllocError>
     ensures { IfOk result (λ s. string_bytes s ≡ spec.of_refusal name.now text.now refusal.now) }
+{
+    match refusal.kind() {
+        ErrorKind::OutOfMemory => placeless(alloc, name, refusal.text()),
+        _ => placed(alloc, name, text, refusal),
+    }
+}
+
+fn placeless(alloc: Global, name: &str, said: &str) -> Result<String, AllocError>
+    ensures { IfOk result (λ s. string_bytes s ≡ name.now ++ (codes ": " ++ said.now)) }
+{
+    format!(in alloc; "{name}: {said}")
+}
+
+fn placed(alloc: Global, name: &str, text: &str, refusal: &Error) -> Result<String, AllocError>
+    ensures { IfOk result (λ s. string_bytes s ≡ spec.placed name.now text.now refusal.now) }
 {
     let (start, end) = place_of(text, refusal);
     note_at(alloc, name, text, refusal.text(), start, end)
@@ -58,17 +89,39 @@ pub fn note_at(
 ) -> Result<String, AllocError>
     ensures { IfOk result (λ s. string_bytes s ≡ spec.note name.now text.now message.now start end) }
 {
-    let (head, rest) = cut(text, start.min(end_of(text)));
-    let (inside, _) = cut(rest, end.saturating_sub(head.len()));
-    let before = last_line(head);
-    let after = first_line(rest);
-    let blanks = drawn(alloc, before, ' ', '\t')?;
-    let marks = marks(alloc, first_line(inside))?;
+    note_from(alloc, name, 1, text, message, start, end)
+}
+
+/// The same of a text that was cut from a larger one: its first line is the one of this number there.
+pub fn note_from(
+    alloc: Global,
+    name: &str,
+    line: u32,
+    text: &str,
+    message: &str,
+    start: usize,
+    end: usize,
+) -> Result<String, AllocError>
+    ensures { IfOk result (λ s. string_bytes s ≡ spec.note_from name.now line text.now message.now start end) }
+{
+    let (start, end) = shown_place(text, start, end);
+    let (head, rest) = cut(text, start);
+    let following = first_line(rest);
+    let (inside, _) = cut(following, end.saturating_sub(head.len()));
+    let before = visible(alloc, last_line(head))?;
+    let after = visible(alloc, following)?;
+    let marked = visible(alloc, inside)?;
+    let front = before.as_str();
+    let back = after.as_str();
+    let pointed = marked.as_str();
+    let blanks = drawn(alloc, front, ' ', '\t')?;
+    let marks = marks(alloc, pointed)?;
     let under = blanks.as_str();
-    let heading = heading(alloc, name, 1 + line_feeds(head), 1 + under.len(), message)?;
+    let line = line as usize + line_feeds(head);
+    let heading = heading(alloc, name, line, 1 + under.len(), message)?;
     let first = heading.as_str();
-    let marked = marks.as_str();
-    joined(alloc, first, before, after, under, marked)
+    let carets = marks.as_str();
+    joined(alloc, first, front, back, under, carets)
 }
 
 /// The first line of a note.
@@ -100,13 +153,48 @@ fn joined(
     format!(in alloc; "{heading}\n{before}{after}\n{blanks}{marks}")
 }
 
-/// Where the last line of a text ends.
-fn end_of(text: &str) -> usize
-    ensures { result ≡ spec.end_of text.now }
+/// Where a place of a text is shown: the end of the text, and what is past it, after the last token.
+fn shown_place(text: &str, start: usize, end: usize) -> (usize, usize)
+    ensures { result ≡ spec.shown_place text.now start end }
 {
-    match text.as_bytes().last() {
-        Some(b'\n') => text.len() - 1,
-        _ => text.len(),
+    if start < text.len() {
+        (start, end)
+    } else {
+        let last = text.len() - after_tokens(text).len();
+        (last, last)
+    }
+}
+
+/// What follows the last token: blanks and comments. Where no token begins, the rest of the line counts as one.
+#[tactic(auto, using(crate::proofs::Pasts::pasts))]
+fn after_tokens(text: &str) -> &str
+    ensures rest { chars result.now ≡ spec.after_tokens (chars text.now) }
+    ensures past { Past text.now result.now }
+{
+    let mut last = text;
+    let mut rest = text;
+    while let Some((_, next)) = split_first(rest) {
+        match front(rest, Docs::Refuse) {
+            Ok((piece, after)) => {
+                last = if is_token(piece) { after } else { last };
+                rest = after;
+            }
+            Err(_) => {
+                rest = line_end(next);
+                last = rest;
+            }
+        }
+    }
+    last
+}
+
+/// Whether it is no blank and no comment.
+fn is_token(piece: Piece) -> bool
+    ensures { result ≡ spec.is_token piece }
+{
+    match piece {
+        Piece::Leaf(Leaf::Blank) => false,
+        Piece::Leaf(_) | Piece::Open(_) | Piece::Close(_) => true,
     }
 }
 
@@ -139,11 +227,34 @@ fn beyond(text: &str, count: usize) -> &str
     rest
 }
 
-/// The text up to its first line feed.
+/// The first line of a text, without its end.
 fn first_line(text: &str) -> &str
     ensures { chars result.now ≡ spec.first_line (chars text.now) }
 {
-    up_to(text, after_run(text, Class::NoLineFeed))
+    up_to(text, line_end(text))
+}
+
+/// The text from the end of its first line on.
+#[tactic(auto, using(crate::proofs::Pasts::pasts))]
+fn line_end(text: &str) -> &str
+    ensures rest { chars result.now ≡ spec.line_end (chars text.now) }
+    ensures past { Past text.now result.now }
+{
+    let mut rest = text;
+    while let Some((ch, after)) = split_first(rest) {
+        if ends_line(ch, after) {
+            return rest;
+        }
+        rest = after;
+    }
+    rest
+}
+
+/// Whether a line ends at this character, which stands before `rest`.
+fn ends_line(ch: char, rest: &str) -> bool
+    ensures { result ≡ spec.ends_line ch (chars rest.now) }
+{
+    ch == '\n' || (ch == '\r' && begins(rest, '\n'))
 }
 
 /// The text after its last line feed.
@@ -176,6 +287,51 @@ fn line_feeds(text: &str) -> usize
         rest = after;
     }
     count
+}
+
+/// A text as it is shown.
+fn visible(alloc: Global, text: &str) -> Result<String, AllocError>
+    ensures { IfOk result (λ s. string_bytes s ≡ spec.visible (chars text.now)) }
+{
+    let mut out = String::new(alloc);
+    let mut rest = text;
+    while let Some((ch, after)) = split_first(rest) {
+        push_visible(&mut out, ch)?;
+        rest = after;
+    }
+    Ok(out)
+}
+
+/// Appends what stands for a character.
+fn push_visible(out: &mut String, ch: char) -> Result<(), AllocError>
+    ensures { OnOk result (string_bytes out.new ≡ string_bytes out.old ++ spec.visible_char ch) }
+{
+    if is_hidden(ch) {
+        let number = ch as u32;
+        write!(out, "<U+{number:04X}>")
+    } else {
+        out.push(picture(ch))
+    }
+}
+
+/// Whether a character stands as its number.
+fn is_hidden(ch: char) -> bool
+    ensures { result ≡ spec.is_hidden ch }
+{
+    ('\u{80}' <= ch && ch <= '\u{9f}') || HIDDEN.contains(&ch)
+}
+
+/// The picture of a character of control, and any other character itself.
+fn picture(ch: char) -> char
+    ensures { result ≡ spec.picture ch }
+{
+    if ch == '\u{7f}' {
+        '\u{2421}'
+    } else if ch < ' ' && ch != '\t' {
+        char::from_u32(0x2400 + ch as u32).unwrap_or(ch)
+    } else {
+        ch
+    }
 }
 
 /// How many columns a character takes.

@@ -2,10 +2,12 @@
 
 ghost use Rattle.std.specs.Prelude.{◌≡◌, ◌<◌, ◌++◌, IfOk, MatchResult, Ok};
 ghost use Rattle.token_core.specs.Trees as trees;
+ghost use Rattle.token_text.specs.declared.piece.Leaf.TheVariants.{Doc as doc_leaf};
 ghost use Rattle.token_text.specs.Pieces as pieces;
 ghost use Rattle.token_text.specs.Reading as spec;
 
-use crate::piece::{Leaf, Piece};
+use crate::doc;
+use crate::piece::{Form, Leaf, Piece, Style};
 use std::alloc::{AllocError, Global};
 use std::mem;
 use token_core::{
@@ -80,6 +82,7 @@ impl State {
     {
         match leaf {
             Leaf::Blank => Ok(()),
+            Leaf::Doc(style, form) => self.push_doc(style, form, text, span),
             Leaf::Word => self.push_word(text, span),
             Leaf::Lifetime => {
                 let word = past_quote(text);
@@ -109,6 +112,25 @@ impl State {
     {
         self.trees
             .push(TokenTree::Punct(Punct::new(ch, spacing, span)))
+    }
+
+    /// The attribute of a comment of documentation.
+    fn push_doc(
+        &mut self,
+        style: Style,
+        form: Form,
+        text: &str,
+        span: Span,
+    ) -> Result<(), AllocError>
+        ensures { IfOk result (λ _. spec.act span text.now (spec.leaf_piece (doc_leaf style form)) (spec.state_of self.old)
+            ≡ Ok (spec.state_of self.new)) }
+    {
+        let group = doc::group(self.alloc, form, text, span)?;
+        self.push_mark('#', Spacing::Alone, span)?;
+        if let Style::Inner = style {
+            self.push_mark('!', Spacing::Alone, span)?;
+        }
+        self.trees.push(TokenTree::Group(group))
     }
 
     fn open_group(&mut self, delimiter: Delimiter, span: Span) -> Result<(), AllocError>

@@ -194,7 +194,7 @@ fn read_body<'a>(
     let Some(suffix) = after_closing(rest, closing) else {
         return Err(stuck(alloc, lit, rest));
     };
-    if !is_end(word::after_suffix(suffix)) {
+    if !word::is_end(word::after_suffix(suffix)) {
         return Err(no_string(alloc, lit));
     }
     let closing = between(lit, rest, suffix);
@@ -203,12 +203,6 @@ fn read_body<'a>(
         closing,
         suffix,
     })
-}
-
-pub fn is_end(text: &str) -> bool
-    ensures { result ≡ spec.is_nothing (chars text.now) }
-{
-    word::split_first(text).is_none()
 }
 
 fn no_string(alloc: Global, lit: &LitStr) -> Error

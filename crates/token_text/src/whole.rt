@@ -1,8 +1,10 @@
 //! Reads of a whole text.
 
-ghost use Rattle.token_text.specs.Wholes.{Reads, Keeps, Refuses, Told};
+ghost use Rattle.token_text.specs.declared.piece.Docs.TheVariants.{Read as documented};
+ghost use Rattle.token_text.specs.Wholes.{Reads, Keeps, Refuses, Told, ReadsWith, KeepsWith, RefusesWith, ToldWith};
 
-use crate::lexer::lex;
+use crate::lexer::lex_with;
+use crate::piece::Docs;
 use std::alloc::Global;
 use token_core::{ByParse, Error, Parse, Parser, Span, read_scoped};
 
@@ -38,7 +40,48 @@ pub fn read_str_with<P: Parser + Drop>(
     ensures refuses { Refuses text.now result }
     ensures told { Told text.now result }
 {
-    let tokens = lex(alloc, text)?;
+    read_with(alloc, parser, text, Docs::Refuse)
+}
+
+/// Reads all of a text, as `read_str` does, and each comment of documentation in it as the attribute that it stands for, as
+/// `lex_documented` does.
+pub fn read_str_documented<T: Parse>(alloc: Global, text: &str) -> Result<T, Error>
+    ensures reads { ReadsWith documented T.reads T.refuses text.now result }
+    ensures promise { KeepsWith documented T.promise text.now result }
+    ensures refuses { RefusesWith documented text.now result }
+    ensures told { ToldWith documented text.now result }
+{
+    read_str_documented_with(alloc, ByParse::<T>::new(), text)
+}
+
+/// Reads all of a text by a parser, as `read_str_documented` does by a type.
+pub fn read_str_documented_with<P: Parser + Drop>(
+    alloc: Global,
+    parser: P,
+    text: &str,
+) -> Result<P::Output, Error>
+    requires { P.can_parse parser }
+    ensures reads { ReadsWith documented (P.reads parser) (P.refuses parser) text.now result }
+    ensures promise { KeepsWith documented (P.promise parser) text.now result }
+    ensures refuses { RefusesWith documented text.now result }
+    ensures told { ToldWith documented text.now result }
+{
+    read_with(alloc, parser, text, Docs::Read)
+}
+
+fn read_with<P: Parser + Drop>(
+    alloc: Global,
+    parser: P,
+    text: &str,
+    docs: Docs,
+) -> Result<P::Output, Error>
+    requires { P.can_parse parser }
+    ensures reads { ReadsWith docs (P.reads parser) (P.refuses parser) text.now result }
+    ensures promise { KeepsWith docs (P.promise parser) text.now result }
+    ensures refuses { RefusesWith docs text.now result }
+    ensures told { ToldWith docs text.now result }
+{
+    let tokens = lex_with(alloc, text, docs)?;
     let end = Span::new(text.len(), text.len());
     read_scoped(alloc, parser, end, &tokens)
 }

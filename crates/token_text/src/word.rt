@@ -1,12 +1,12 @@
 //! Runs of characters and words at the front of a text, and raw ones.
 
-ghost use Rattle.std.specs.Prelude.{◌≡◌, ◌∷◌, [], ◌++◌, ◌<◌, ℕ, List, length, encode_utf8, chars, IfSome, MatchOption};
+ghost use Rattle.std.specs.Prelude.{◌≡◌, ◌∷◌, [], ◌++◌, ◌<◌, ℕ, List, length, drop, encode_utf8, chars, IfSome, MatchOption};
 ghost use Rattle.token_text.specs.declared.class.Class.TheVariants.{Blank};
 ghost use Rattle.token_text.specs.Characters as c;
 ghost use Rattle.token_text.specs.Front as spec;
 ghost use Rattle.token_text.specs.Pieces as pieces;
 
-use crate::class::{Class, is_blank};
+use crate::class::{Class, is_blank, is_letter};
 
 /// The words that have no raw form, as they would be written.
 const NOT_RAW: [&str; 5] = ["r#_", "r#crate", "r#self", "r#super", "r#Self"];
@@ -25,6 +25,12 @@ pub fn split_first(text: &str) -> Option<(char, &str)>
     }
 }
 
+pub fn is_end(text: &str) -> bool
+    ensures { result ≡ c.is_nothing (chars text.now) }
+{
+    split_first(text).is_none()
+}
+
 /// The text up to where its end, `rest`, begins.
 #[tactic(auto, using(crate::proofs::Pasts::pasts))]
 pub fn up_to<'a>(text: &'a str, rest: &str) -> &'a str
@@ -41,6 +47,18 @@ pub fn after_char(text: &str, ch: char) -> Option<&str>
 {
     let (first, rest) = split_first(text)?;
     if first == ch { Some(rest) } else { None }
+}
+
+/// What follows the first character, where there is one.
+#[tactic(auto, using(crate::proofs::Pasts::pasts))]
+pub fn after_first(text: &str) -> &str
+    ensures rest { chars result.now ≡ drop 1 (chars text.now) }
+    ensures past { spec.Past text.now result.now }
+{
+    match split_first(text) {
+        Some((_, rest)) => rest,
+        None => text,
+    }
 }
 
 /// Whether this character stands here.
@@ -96,18 +114,11 @@ pub fn after_blanks(text: &str) -> &str
     rest
 }
 
-#[tactic(auto, unfolding(crate::specs::Characters::is_letter))]
-fn is_letter(ch: char) -> bool
-    ensures { result ≡ c.is_letter ch }
-{
-    unicode_ident::is_xid_start(ch)
-}
-
-#[tactic(auto, unfolding(crate::specs::Characters::is_start))]
+#[tactic(auto, unfolding(crate::specs::Characters::is_start, crate::specs::Characters::is_letter))]
 pub fn is_start(ch: char) -> bool
     ensures { result ≡ c.is_start ch }
 {
-    unicode_ident::is_xid_start(ch) || ch == '_'
+    is_letter(ch) || ch == '_'
 }
 
 /// What follows the word at the front.

@@ -32,6 +32,7 @@ token_front Is print reader = record {
   grammar = record { spells = λ clear x l. Is clear x l done; normal = λ x. x; print = print; plain = λ x. Unit {0}; reader = reader };
   begins = Is;
   follows = λ k. true;
+  plain = λ x k. Unit {0};
 }
 
 module _ {A : Type 0} (Is : Bool → A → Toks → Toks → Type 0) (print : A → Print) (reader : Reader A)
@@ -49,8 +50,8 @@ module _ {A : Type 0} (Is : Bool → A → Toks → Toks → Type 0) (print : A 
     complete = λ s x k n v i o. complete_to s x k n i;
     spells = λ x l r k i q o. again x l r k i;
     visible = λ x l r k i v q u o. whole x (row (print x) k) k (again x l r k i) u;
-    stays = λ x l r i q. refl;
-    same = λ x l r i q. refl;
+    stays = λ x l r k i q. refl;
+    same = λ x l r k i q. refl;
   }
 
   pub token_fronted : (s t : Stream) (r : Result A Refusal) → Reads (reader s) r t → Fronted (token_front Is print reader) s r t

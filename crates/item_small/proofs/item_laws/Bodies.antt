@@ -13,7 +13,7 @@ use Rattle.token_core.specs.Groups.{brace, brace_name, opened}
 use Rattle.token_core.specs.Loops.{Many, listed, size}
 use Rattle.token_core.specs.Prints as p
 use Rattle.token_core.specs.Reads as reads
-use Rattle.token_core.specs.Reads.{Fails, Gives, Outcome, Reader, and_then, closing, expected, finished, first_of, in_group, inside, leaves, open_group, past, same_delimiter, sees_group}
+use Rattle.token_core.specs.Reads.{Fails, Gives, Outcome, Reader, closing, expected, finished, first_of, in_group, inside, leaves, open_group, past, same_delimiter, sees_group}
 use Rattle.token_core.specs.Rebuilt.{Visible}
 use Rattle.token_core.specs.Refusal.{Refusal}
 use Rattle.token_core.specs.Spellings.{AreChars, last_char, more_chars, IsMark, is_mark}
@@ -36,9 +36,9 @@ use Rattle.item_small.specs.item.Reading as reading
 use Rattle.item_small.specs.item.Reading.{comma}
 use Rattle.item_small.specs.item.Spelling.{IsBody, IsField, a_field, named, unit}
 use Rattle.item_small.specs.item.Trees.{Comma, Semi}
-use Rattle.item_small.proofs.front_laws.Heads.{at_end, no_left}
+use Rattle.token_core.proofs.fronts_laws.Heads.{at_end, no_left}
 use Rattle.item_small.proofs.front_laws.Tokens.{mark_front, mark_fronted, mark_refused}
-use Rattle.item_small.proofs.front_laws.Refused.{stopped}
+use Rattle.token_core.proofs.fronts_laws.Refused.{stopped}
 use Rattle.item_small.proofs.item_laws.Ends.{name_goes}
 use Rattle.item_small.proofs.item_laws.Fields as list
 
@@ -166,9 +166,6 @@ module _ {A T : Type 0} (a : Fronting A) (t : Fronting T) where
   abbrev pub read_fields : Reader (Many (FieldOf A T) Comma)
   read_fields = reading.fields a.grammar.reader t.grammar.reader
 
-  abbrev pub read_body : Reader (BodyOf A T)
-  read_body = reading.body a.grammar.reader t.grammar.reader
-
   -- ---- how they are read
 
   pub fields_read : (c r : Stream) (v : Many (FieldOf A T) Comma) → Terminates (FieldRead a t) (Gives comma) c v.0 v.1 r → read_fields c ≡ Ok (v, r)
@@ -196,6 +193,9 @@ module _ {A T : Type 0} (a : Fronting A) (t : Fronting T) where
 
     ends : (k : Toks) → promises.ends_field k ≡ true → promises.ends_field k ≡ true
     ends k o = o
+
+    keeps : (x : FieldOf A T) (k : Toks) → promises.ends_field k ≡ true → Field.grammar.plain x → Field.plain x k
+    keeps x k o h = (h.0, fits.ty_plain x.ty k o h.1)
 
     -- ---- the print of fields in braces
 
@@ -263,7 +263,7 @@ module _ {A T : Type 0} (a : Fronting A) (t : Fronting T) where
         end_rest = refl
 
         fields_told : r.left ≡ None → list.Told Field true c xs cs r
-        fields_told e = list.told Field ends field_starts (FieldRead a t) (λ _ _ _ h. h.within) (λ _ _ _ h. h.fronts fits) c r xs cs true i child_left child_seen e
+        fields_told e = list.told Field ends field_starts keeps (FieldRead a t) (λ _ _ _ h. h.within) (λ _ _ _ h. h.fronts fits) c r xs cs true i child_left child_seen e
 
         -- what is spelt there are fields in these braces
         body_same : (y : BodyOf A T) (k l : Toks) → s.rest ≡ l → IsBody a t true y l k → list.Told Field true c xs cs r → (y ≡ made) × (end.rest ≡ k)
@@ -280,7 +280,7 @@ module _ {A T : Type 0} (a : Fronting A) (t : Fronting T) where
         body_left y k l e (named {s = z} {xs = ys} {cs = ds} {l = m} j) =
             let w : group d.Brace x at_front.content u.rest ≡ group d.Brace z m k = sym at_front.is ∙ e in
             let wm : at_front.content ≡ m = cc w in
-            let none = list.left_none Field ends field_starts (FieldRead a t) (λ _ _ _ h. h.within) (λ _ _ _ h. h.fronts fits) c r xs cs true ys ds m i child_left child_seen (child_rest ∙ wm) j in
+            let none = list.left_none Field ends field_starts keeps (FieldRead a t) (λ _ _ _ h. h.within) (λ _ _ _ h. h.fronts fits) c r xs cs true ys ds m i child_left child_seen (child_rest ∙ wm) j in
             end_left ∙ at_end r (fields_told none).ends none
         body_left y k l e (unit {q = q} j) = absurd (semi_no_brace true q x at_front.content u.rest l k (sym e ∙ at_front.is) j)
 
@@ -292,7 +292,7 @@ module _ {A T : Type 0} (a : Fronting A) (t : Fronting T) where
               sound = λ q. subst (λ l. IsBody a t false made l end.rest) (sym at_front.is)
                   (subst (λ m. IsBody a t false made (group d.Brace x at_front.content u.rest) m) (sym end_rest) (named (subst (λ l. list.Are Field false true xs cs l) child_rest h.sound)));
               unique = λ y k j q. body_same y k s.rest refl j h;
-              reprint = λ q g k z m. braces_again x xs cs k (h.reprint (plain_fields xs g)) z;
+              reprint = λ q k g z m. braces_again x xs cs k (h.reprint (plain_fields xs g)) z;
             }
 
       pub fields_fronted : Fronted Body s (Ok made) end
@@ -307,7 +307,7 @@ module _ {A T : Type 0} (a : Fronting A) (t : Fronting T) where
             let w : group d.Brace x f.content u.rest ≡ group d.Brace z q m = sym f.is ∙ g in
             let wq : f.content ≡ q = cc w in
             let rest = ap (λ (z : Stream). z.rest) f.child in
-            list.no_list Field ends field_starts (FieldRead a t) (λ _ _ _ h. h.within) (λ _ _ _ h. h.fronts fits) (FieldRefused a t) (λ _ _ h. h.fronts fits) e c true ys ds q (i k) k
+            list.no_list Field ends field_starts keeps (FieldRead a t) (λ _ _ _ h. h.within) (λ _ _ _ h. h.fronts fits) (FieldRefused a t) (λ _ _ h. h.fronts fits) e c true ys ds q (i k) k
             (ap (λ (z : Stream). z.left) f.child) (subst Visible (sym rest) (subst Visible f.is v).1) (rest ∙ wq) j
         none_spelt k n v f y m l g (unit {q = q} j) = absurd (semi_no_brace true q x f.content u.rest l m (sym g ∙ f.is) j)
 
@@ -360,7 +360,7 @@ module _ {A T : Type 0} (a : Fronting A) (t : Fronting T) where
         visible = g.visible;
         sound = λ o. unit (g.sound o);
         unique = λ y k i o. semi_same s u q f g y k s.rest refl i;
-        reprint = λ o p k z w. semi_again q k (g.reprint o p k z w);
+        reprint = λ o k p z w. semi_again q k (g.reprint o k p z w);
       }
 
   -- neither braces nor a `;` that is read

@@ -29,7 +29,7 @@ use Rattle.token_core.proofs.Turns.{same_pair}
 use Rattle.item_small.specs.item.Promises.{ends_field}
 use Rattle.item_small.specs.item.Reading.{comma}
 use Rattle.item_small.specs.item.Spelling.{IsName, a_name}
-use Rattle.item_small.specs.item.Trees.{Colon, Comma}
+use Rattle.item_small.specs.item.Trees.{Comma}
 
 -- ---- the end
 
@@ -94,9 +94,6 @@ chars_go clear all c cs ss l r (more_chars i) = refl
 
 pub comma_goes : (clear : Bool) (c : Comma) (l r : Toks) → IsMark clear c l r → is_done l ≡ false
 comma_goes clear c l r (is_mark {ss = ss} i) = chars_go clear (44 ∷ []) 44 [] ss l r i
-
-pub colon_goes : (clear : Bool) (c : Colon) (l r : Toks) → IsMark clear c l r → is_done l ≡ false
-colon_goes clear c l r (is_mark {ss = ss} i) = chars_go clear (58 ∷ []) 58 [] ss l r i
 
 pub name_goes : (i : Ident) (l r : Toks) → IsName i l r → is_done l ≡ false
 unfolding is_done

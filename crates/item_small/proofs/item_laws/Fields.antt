@@ -24,8 +24,8 @@ use Rattle.token_core.proofs.Turns.{size_suffix}
 use Rattle.item_small.specs.item.Promises.{ends_field}
 use Rattle.item_small.specs.item.Reading.{comma}
 use Rattle.item_small.specs.item.Trees.{Comma}
-use Rattle.item_small.proofs.front_laws.Both.{none_before}
-use Rattle.item_small.proofs.front_laws.Refused.{stopped}
+use Rattle.token_core.proofs.fronts_laws.Both.{none_before}
+use Rattle.token_core.proofs.fronts_laws.Refused.{stopped}
 use Rattle.item_small.proofs.item_laws.Ends.{comma_follows, comma_goes, comma_left, comma_met, comma_same, comma_takes, done_of, end_follows, not_over, over, row_size}
 
 module _ {X : Type 0} (reader : Reader X) where
@@ -112,7 +112,7 @@ module _ {X : Type 0} (F : Fronting X) where
     pub unique : (ys : List X) (ds : List Comma) → Are true b ys ds s.rest → (ys ≡ xs) × (ds ≡ cs)
     pub reprint : Plain xs → Again b xs cs
 
-  module _ (fits : (k : Toks) → ends_field k ≡ true → F.follows k ≡ true) (starts : (x : X) (l k : Toks) → F.begins true x l k → is_done l ≡ false) where
+  module _ (fits : (k : Toks) → ends_field k ≡ true → F.follows k ≡ true) (starts : (x : X) (l k : Toks) → F.begins true x l k → is_done l ≡ false) (keeps : (x : X) (k : Toks) → ends_field k ≡ true → F.grammar.plain x → F.plain x k) where
     -- ---- the print
 
     none_again : (b : Bool) → Again b [] []
@@ -245,7 +245,7 @@ module _ {X : Type 0} (F : Fronting X) where
             ends = q;
             sound = last_value (subst (λ l. F.begins false x s.rest l) q (f.sound may));
             unique = λ ys ds i. one_only ys ds s.rest refl i;
-            reprint = λ p. alone_again x (f.reprint may p.0 done tt (fits done end_follows)) b;
+            reprint = λ p. alone_again x (f.reprint may done (keeps x done end_follows p.0) tt (fits done end_follows)) b;
           }
         where
           one_only : (ys : List X) (ds : List Comma) (l : Toks) → s.rest ≡ l → Are true b ys ds l → (ys ≡ x ∷ []) × (ds ≡ [])
@@ -285,7 +285,7 @@ module _ {X : Type 0} (F : Fronting X) where
           again_list f may m g h =
               let mark = mark_again false c a.rest u.rest (printed_list xr cr) m.0 in
               let k = row (p.mark c) (printed_list xr cr) in
-              more_again x c xr cr mark (f.reprint may h k (mark_whole true c k (printed_list xr cr) mark g.visible) (fits k (comma_follows true c k (printed_list xr cr) mark))) g b
+              more_again x c xr cr mark (f.reprint may k (keeps x k (comma_follows true c k (printed_list xr cr) mark) h) (mark_whole true c k (printed_list xr cr) mark g.visible) (fits k (comma_follows true c k (printed_list xr cr) mark))) g b
 
       -- ---- what was refused
 

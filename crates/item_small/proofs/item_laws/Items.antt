@@ -18,9 +18,11 @@ use Rattle.item_small.specs.item.Promises.{begins_body, Fits}
 use Rattle.item_small.specs.item.Reading as reading
 use Rattle.item_small.specs.item.Spelling.{IsBody, named, unit, IsItem, an_item}
 use Rattle.item_small.specs.item.Trees.{Struct, item_of}
-use Rattle.item_small.proofs.front_laws.Both as both
-use Rattle.item_small.proofs.front_laws.Both.{took_both}
-use Rattle.item_small.proofs.front_laws.Same.{Alike, answered_alike, refused_alike}
+use Rattle.token_core.specs.fronts.Both as pairs
+use Rattle.token_core.proofs.fronts_laws.Both as both
+use Rattle.token_core.proofs.fronts_laws.Both.{took_both}
+use Rattle.token_core.specs.fronts.Same.{Alike}
+use Rattle.token_core.proofs.fronts_laws.Same.{answered_alike, refused_alike}
 use Rattle.item_small.proofs.front_laws.Tokens.{name_front, word_front}
 use Rattle.item_small.proofs.item_laws.Bodies.{sees_brace}
 
@@ -64,19 +66,19 @@ module _ {A G W T : Type 0} (a : Fronting A) (g : Fronting G) (w : Fronting W) (
   All = A × After_attrs
 
   abbrev Clause : Fronting After_generics
-  Clause = both.both w Body
+  Clause = pairs.both w Body
 
   abbrev Declared : Fronting After_name
-  Declared = both.both g Clause
+  Declared = pairs.both g Clause
 
   abbrev Named : Fronting After_word
-  Named = both.both name_front Declared
+  Named = pairs.both name_front Declared
 
   abbrev Bare : Fronting After_attrs
-  Bare = both.both struct_front Named
+  Bare = pairs.both struct_front Named
 
   abbrev Parts : Fronting All
-  Parts = both.both a Bare
+  Parts = pairs.both a Bare
 
   abbrev to : All → ItemOf A G W T
   to x = item_of x.0 x.1.0 x.1.1.0 x.1.1.1.0 x.1.1.1.1.0 x.1.1.1.1.1
@@ -109,23 +111,23 @@ module _ {A G W T : Type 0} (a : Fronting A) (g : Fronting G) (w : Fronting W) (
       follows = λ k o. refl;
       normal = λ x. refl;
       print = λ x. refl;
-      plain = λ x h. (h.0, (tt, (tt, (h.1, (h.2, h.3)))));
+      plain = λ x k h. (fits.field.attrs_plain x.0 _ h.0, (tt, (tt, (fits.generics_plain _ _ h.1, (fits.clause_plain _ _ h.2, h.3)))));
       reads = reads;
     }
 
-    clause_fits : both.Fit w Body
+    clause_fits : pairs.Fit w Body
     clause_fits clear x l k i o = fits.body l (body_begins a t clear x l k i)
 
-    declared_fits : both.Fit g Clause
+    declared_fits : pairs.Fit g Clause
     declared_fits clear x l k i o = fits.clause clear x.0 l i.0 i.1 (body_begins a t clear x.1 i.0 k i.2)
 
-    named_fits : both.Fit name_front Declared
+    named_fits : pairs.Fit name_front Declared
     named_fits clear x l k i o = refl
 
-    bare_fits : both.Fit struct_front Named
+    bare_fits : pairs.Fit struct_front Named
     bare_fits clear x l k i o = refl
 
-    parts_fit : both.Fit a Bare
+    parts_fit : pairs.Fit a Bare
     parts_fit clear x l k i o = fits.word l (word_seen x.0 l i.0 i.1)
 
     refused : (s : Stream) (e : Refusal) → Fronted Parts s (Err e) s → Fronted Item s (Err e) s

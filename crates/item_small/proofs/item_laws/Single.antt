@@ -13,9 +13,11 @@ use Rattle.item_small.specs.item.Promises.{FieldFits, FieldRead, FieldRefused}
 use Rattle.item_small.specs.item.Reading as reading
 use Rattle.item_small.specs.item.Spelling.{IsField, a_field, IsName, a_name}
 use Rattle.item_small.specs.item.Trees.{Colon, field_of}
-use Rattle.item_small.proofs.front_laws.Both as both
-use Rattle.item_small.proofs.front_laws.Both.{took_both}
-use Rattle.item_small.proofs.front_laws.Same.{Alike, answered_alike, refused_alike}
+use Rattle.token_core.specs.fronts.Both as pairs
+use Rattle.token_core.proofs.fronts_laws.Both as both
+use Rattle.token_core.proofs.fronts_laws.Both.{took_both}
+use Rattle.token_core.specs.fronts.Same.{Alike}
+use Rattle.token_core.proofs.fronts_laws.Same.{answered_alike, refused_alike}
 use Rattle.item_small.proofs.front_laws.Tokens.{mark_front, name_front}
 
 pub name_seen : (i : Ident) (l r : Toks) → IsName i l r → sees_word is_ident l ≡ true
@@ -31,13 +33,13 @@ module _ {A T : Type 0} (a : Fronting A) (t : Fronting T) where
 
   -- the parts of a field, the first up to the others
   abbrev Typed : Fronting (Colon × T)
-  Typed = both.both colon_front t
+  Typed = pairs.both colon_front t
 
   abbrev Named : Fronting (Ident × (Colon × T))
-  Named = both.both name_front Typed
+  Named = pairs.both name_front Typed
 
   abbrev Parts : Fronting (A × (Ident × (Colon × T)))
-  Parts = both.both a Named
+  Parts = pairs.both a Named
 
   abbrev to : A × (Ident × (Colon × T)) → FieldOf A T
   to x = field_of x.0 x.1.0 x.1.1.0 x.1.1.1
@@ -68,17 +70,17 @@ module _ {A T : Type 0} (a : Fronting A) (t : Fronting T) where
       follows = fits.ends;
       normal = λ x. refl;
       print = λ x. refl;
-      plain = λ x h. (h.0, (tt, (tt, h.1)));
+      plain = λ x k h. (fits.attrs_plain x.0 _ h.0, (tt, (tt, h.1)));
       reads = reads;
     }
 
-    typed_fits : both.Fit colon_front t
+    typed_fits : pairs.Fit colon_front t
     typed_fits clear x l k i o = refl
 
-    named_fits : both.Fit name_front Typed
+    named_fits : pairs.Fit name_front Typed
     named_fits clear x l k i o = refl
 
-    parts_fit : both.Fit a Named
+    parts_fit : pairs.Fit a Named
     parts_fit clear x l k i o = fits.name l (name_seen x.0 l i.0 i.1)
 
     pub no_attrs : (s : Stream) (e : Refusal) → Fronted a s (Err e) s → Fronted Field s (Err e) s

@@ -1,6 +1,7 @@
 -- The fronts of a struct's parts: attributes keep theirs, by the laws of the trait; and each part fits before the next.
 use Rattle.std.specs.Prelude.{not}
-use Rattle.std.proofs.Common.{◌≡◌, ◌||◌, ◌⊎◌, inl, inr, Bool, true, false, List, [], Option, Result, refl, ◌∙◌, ap}
+use Rattle.std.proofs.Common.{◌≡◌, ℕ, ◌||◌, ◌==◌, ◌⊎◌, inl, inr, Bool, true, false, List, [], ◌∷◌, Option, Result, refl, ◌∙◌, ap}
+use Rattle.std.proofs.lemmas.Bool.{and_from}
 use Rattle.token_core.specs.declared.tree.Delimiter.TheVariants.{Brace}
 use Rattle.token_core.specs.Fronted.{Fronted, FrontLaws}
 use Rattle.token_core.specs.Marks.{text_of}
@@ -16,14 +17,21 @@ use Rattle.syn_path.specs.Lengths.{AttributeLaws}
 use Rattle.syn_path.specs.Traits.{Attributes, Expressions}
 use Rattle.syn_path.specs.Values.{SpelledValues}
 use Rattle.syn_path.specs.Whole.{AttributesMeet}
+use Rattle.syn_forms.specs.declared.places.TypePlace.TheVariants.{Plus}
+use Rattle.syn_forms.specs.predicates.Reading.{ends_predicate}
 use Rattle.syn_generics.specs.declared.generics.WhereClauseOf.{WhereClauseOf}
 use Rattle.syn_generics.specs.generics.Clauses.{a_where_clause}
 use Rattle.syn_generics.specs.generics.Promises.{follows_clause, follows_generics}
 use Rattle.syn_generics.specs.generics.Spelt.{BeginsOptionalClause}
+use Rattle.syn_generics.proofs.generics_laws.complete.Clauses.{brace_no_mark}
+use Rattle.syn_ty.specs.ty.Follows.{Carries}
 use Rattle.syn_ty.specs.ty.Parts.{Manner}
 use Rattle.syn_ty.specs.ty.Spelling.{absent, present}
-use Rattle.item_small.specs.item.Promises.{begins_body, FieldFits, Fits}
+use Rattle.syn_ty.proofs.ty_laws.FrontLaws.{over_follows}
+use Rattle.syn_ty.proofs.ty_laws.complete.Params.{Over, comma_over, done_over, of_either, other_char}
+use Rattle.item_small.specs.item.Promises.{begins_body, ends_field, FieldFits, Fits}
 use Rattle.item_small.specs.part.Fronts as fronts
+use Rattle.item_small.proofs.item_laws.Ends.{over}
 
 not_pound : (k : Toks) → token.sees_pound k ≡ false → not (token.sees_pound k) ≡ true
 not_pound k h = ap not h
@@ -42,8 +50,8 @@ module _ {A : Type 0} (attrs : Attributes A) (told : AttributeLaws attrs.reads a
     complete = λ s x k n v i o. let h = met.met s x k i (no_pound k o) in (past s k h.last, h.reads, refl, n);
     spells = λ x l r k i p o. (met.reprint x l r i).again k;
     visible = λ x l r k i v p u o. (met.reprint x l r i).visible k v u;
-    stays = λ x l r i p. (met.reprint x l r i).stays;
-    same = λ x l r i p. (met.reprint x l r i).same;
+    stays = λ x l r k i p. (met.reprint x l r i).stays;
+    same = λ x l r k i p. (met.reprint x l r i).same;
   }
 
   pub attrs_fronted : (s t : Stream) (r : Result (List A) Refusal) → Reads (attrs.reads s) r t → Fronted (fronts.attributes attrs) s r t
@@ -69,37 +77,48 @@ starts_at l k (inr e) h = mark_goes l e
 before_word : (test : Bytes → Bool) (k : Toks) → sees_word test k ≡ true → not (token.sees_pound k) ≡ true
 before_word test k h = not_pound k (word_no_mark test 35 [] k h)
 
-either : (a b c : Bool) → a || b ≡ true → c || (b || a) ≡ true
-either true true true h = refl
-either true true false h = refl
-either true false true h = refl
-either true false false h = refl
-either false true true h = refl
-either false true false h = refl
-either false false c h = cc h
+-- a predicate ends before a body, and no comma begins one
+body_ends : (k : Toks) → begins_body k ≡ true → ends_predicate k ≡ true
+unfolding ends_predicate
+body_ends k h = by_test (is_done k) (sees_group Brace k) (token.sees_comma k) (token.sees_semi k) _ h
+  where
+    by_test : (a b c d e : Bool) → b || d ≡ true → a || (b || (c || (d || e))) ≡ true
+    by_test true b c d e h = refl
+    by_test false true c d e h = refl
+    by_test false false true d e h = refl
+    by_test false false false true e h = refl
+    by_test false false false false e h = cc h
+
+body_no_mark : (x : ℕ) (k : Toks) → (59 == x) ≡ false → begins_body k ≡ true → sees_mark (x ∷ []) k ≡ false
+body_no_mark x k n h = of_either (sees_group Brace k) (token.sees_semi k) (brace_no_mark x [] k) (other_char 59 x [] [] k n) h
 
 body_follows : (k : Toks) → begins_body k ≡ true → follows_clause k ≡ true
-body_follows k h = either (sees_group Brace k) (token.sees_semi k) (is_done k) h
-
-follows_on : (a b : Bool) → b ≡ true → a || b ≡ true
-follows_on true b h = refl
-follows_on false b h = h
-
-follows_word : (a b : Bool) → a ≡ true → a || b ≡ true
-follows_word true b h = refl
-follows_word false b h = cc h
+body_follows k h = and_from (ends_predicate k) _ (body_ends k h) (ap not (body_no_mark 44 k refl h))
 
 module _ {A E : Type 0} (attrs : Bool → List A → Toks → Toks → Type 0) (values : SpelledValues E) where
   clause_follows : (how : Manner) (x : Option (WhereClauseOf A E)) (l k : Toks) → BeginsOptionalClause attrs values how x l k → begins_body k ≡ true → follows_generics l ≡ true
-  clause_follows how x l k (n, absent) h = follows_on (token.sees_where l) (follows_clause l) (body_follows l h)
-  clause_follows how x l k (n, present (a_where_clause {q = q} {m = m} w g i)) h = follows_word (token.sees_where l) (follows_clause l) (word_seen q l m w)
+  clause_follows how x l k (n, absent) h = ap not (body_no_mark 60 l refl h)
+  clause_follows how x l k (n, present (a_where_clause {q = q} {m = m} w g i)) h = ap not (word_no_mark (is_text (text_of 18)) 60 [] l (word_seen q l m w))
+
+-- nothing follows
+done_plain : Over done
+done_plain = done_over done over
+
+-- what ends a field may follow its type, and what is plain by itself is so there
+ends_over : (k : Toks) → ends_field k ≡ true → Over k
+ends_over k h = of_either (is_done k) (token.sees_comma k) (done_over k) (comma_over k) h
+
+over_carries : (r k : Toks) → Over k → Carries r k
+over_carries r k o = record { no_plus = λ h. o.no_plus; no_word = λ h. o.no_word }
 
 module _ {A E : Type 0} (attrs : Attributes A) (exprs : Expressions E) (met : AttributesMeet attrs.reads attrs.spells attrs.normal attrs.shown) where
   pub field_fits : FieldFits (fronts.attributes attrs) (fronts.ty attrs exprs)
   field_fits = record {
     starts = λ x l k i h. starts_at l k (met.begins x l k i) h;
     name = λ k h. before_word is_ident k h;
-    ends = λ k h. h;
+    ends = λ k h. over_follows Plus k (ends_over k h);
+    attrs_plain = λ x k h. tt;
+    ty_plain = λ x k o h. (h.0, done, h.1, (h.2.0, (h.2.1, h.2.2, (λ q. done_plain.no_plus), (λ q. done_plain.no_word))), over_carries done k (ends_over k o));
   }
 
   pub fits : Fits (fronts.attributes attrs) (fronts.generics attrs exprs) (fronts.clause attrs exprs) (fronts.ty attrs exprs)
@@ -108,4 +127,6 @@ module _ {A E : Type 0} (attrs : Attributes A) (exprs : Expressions E) (met : At
     word = λ k h. before_word (is_text (text_of 43)) k h;
     clause = λ clear x l k i h. clause_follows attrs.spells exprs.spells _ x l k i h;
     body = body_follows;
+    generics_plain = λ x k h. (h.0, done, h.1, h.2);
+    clause_plain = λ x k h. (h.0, done, h.1, h.2);
   }

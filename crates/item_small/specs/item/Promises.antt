@@ -46,13 +46,16 @@ module _ {A T : Type 0} (a : Fronting A) (t : Fronting T) where
     };
     begins = IsField a t;
     follows = ends_field;
+    plain = λ x k. a.grammar.plain x.attrs × t.plain x.ty k;
   }
 
-  -- Attributes may stand before a name, and a type before the end or a comma. What attributes spell before more tokens is no end.
+  -- Attributes may stand before a name, and a type before the end or a comma. What attributes spell before more tokens is no end. What is plain by itself is plain there.
   pub record FieldFits : Type 0 where
     pub starts : (x : A) (l k : Toks) → a.begins true x l k → is_done k ≡ false → is_done l ≡ false
     pub name : (k : Toks) → sees_word is_ident k ≡ true → a.follows k ≡ true
     pub ends : (k : Toks) → ends_field k ≡ true → t.follows k ≡ true
+    pub attrs_plain : (x : A) (k : Toks) → a.grammar.plain x → a.plain x k
+    pub ty_plain : (x : T) (k : Toks) → ends_field k ≡ true → t.grammar.plain x → t.plain x k
 
   -- What a read of a field answers: what its reference reader does, further on, and as it promises on fronts.
   pub record FieldRead (s : Stream) (x : FieldOf A T) (u : Stream) : Type 0 where
@@ -76,6 +79,7 @@ module _ {A T : Type 0} (a : Fronting A) (t : Fronting T) where
     };
     begins = IsBody a t;
     follows = λ k. true;
+    plain = λ x k. body_plain x;
   }
 
 module _ {A G W T : Type 0} (a : Fronting A) (g : Fronting G) (w : Fronting W) (t : Fronting T) where
@@ -90,7 +94,7 @@ module _ {A G W T : Type 0} (a : Fronting A) (g : Fronting G) (w : Fronting W) (
 
   -- what may follow an item: anything
   abbrev pub item : Fronting (ItemOf A G W T)
-  item = record { grammar = grammar; begins = IsItem a g w t; follows = λ k. true }
+  item = record { grammar = grammar; begins = IsItem a g w t; follows = λ k. true; plain = λ x k. grammar.plain x }
 
   -- Each part may stand before what comes next in an item.
   pub record Fits : Type 0 where
@@ -101,3 +105,6 @@ module _ {A G W T : Type 0} (a : Fronting A) (g : Fronting G) (w : Fronting W) (
     pub clause : (clear : Bool) (x : W) (l k : Toks) → w.begins clear x l k → begins_body k ≡ true → g.follows l ≡ true
     -- a where clause before a body
     pub body : (k : Toks) → begins_body k ≡ true → w.follows k ≡ true
+    -- what is plain by itself is plain there
+    pub generics_plain : (x : G) (k : Toks) → g.grammar.plain x → g.plain x k
+    pub clause_plain : (x : W) (k : Toks) → w.grammar.plain x → w.plain x k

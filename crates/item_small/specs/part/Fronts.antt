@@ -4,7 +4,8 @@ use Rattle.token_core.specs.Fronted.{Fronting}
 use Rattle.token_core.specs.Tokens as token
 use Rattle.token_core.specs.Toks.{done}
 use Rattle.syn_path.specs.Traits.{Attributes, Expressions}
-use Rattle.syn_ty.specs.ty.Promises as types
+use Rattle.syn_forms.specs.declared.places.TypePlace.TheVariants.{Plus}
+use Rattle.syn_ty.specs.ty.Frontings as types
 use Rattle.syn_ty.specs.ty.Trees.{TypeTree}
 use Rattle.syn_generics.specs.declared.generics.GenericsOf.{GenericsOf}
 use Rattle.syn_generics.specs.declared.generics.WhereClauseOf.{WhereClauseOf}
@@ -18,6 +19,7 @@ attributes attrs = record {
   grammar = record { spells = λ clear x l. attrs.spells clear x l done; normal = attrs.normal; print = attrs.shown; plain = λ x. Unit {0}; reader = attrs.reads };
   begins = attrs.spells;
   follows = λ k. not (token.sees_pound k);
+  plain = λ x k. Unit {0};
 }
 
 -- a struct over attributes and expressions
@@ -32,7 +34,7 @@ module _ {A E : Type 0} (attrs : Attributes A) (exprs : Expressions E) where
   clause = clauses.optional_where_clause_front attrs exprs
 
   abbrev pub ty : Fronting (TypeTree A E)
-  ty = types.ty_front attrs exprs
+  ty = types.ty attrs exprs Plus
 
   abbrev pub item : Fronting (Item A E)
   item = items.item (attributes attrs) generics clause ty

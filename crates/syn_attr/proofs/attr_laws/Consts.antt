@@ -79,5 +79,3 @@ module _ {X : Type 0} (nx : Place → X → X) (px : Place → X → Print) (sam
 
   pub const_argument_same : (x : Expr X) → const_argument px (normal_const_argument nx x) ≡ const_argument px x
   const_argument_same x = const_by x (stands_alone x) refl
-
-pub ruleset laws = (const_argument_same)

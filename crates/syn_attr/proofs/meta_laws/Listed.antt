@@ -1,4 +1,4 @@
--- The turns of nested properties are the lists of the grammar, and these are turns.
+-- The turns of nested properties are the lists of the grammar.
 use Rattle.std.proofs.Common.{◌≡◌, ◌≢◌, ◌⊎◌, true, false, ◌<◌, length, [], ◌∷◌, Option, Some, None, Result, Ok, Err, inl, inr, refl, sym, ◌∙◌, ap, subst, codes}
 use Rattle.token_core.specs.declared.mark.Spans.{Spans}
 use Rattle.token_core.specs.declared.span.DelimSpan.{DelimSpan}
@@ -13,18 +13,17 @@ use Rattle.token_core.specs.Marks.{mark_name}
 use Rattle.token_core.specs.Reads as reads
 use Rattle.token_core.specs.Reads.{Ends, Follows, Outcome, Parsed, Refuses, WholeRead, advanced, as_group, as_punct, expected, finished, forked, inside, is_done, is_end, open_group, past, past_mark, past_next, read_mark, three}
 use Rattle.token_core.specs.Refusal.{Refusal}
-use Rattle.token_core.specs.Rebuilt.{Visible}
-use Rattle.token_core.specs.Spellings.{IsMark, is_mark, last_char, mark_at}
+use Rattle.token_core.specs.Spellings.{mark_at}
 use Rattle.token_core.specs.Stream.{Stream}
 use Rattle.token_core.specs.Toks.{Toks, done, word, mark, lit, group, enter, leave}
 use Rattle.token_core.specs.Trees.{punct}
 use Rattle.token_core.proofs.Steps.{link}
 use Rattle.token_core.proofs.Turns.{same_pair}
 use Rattle.syn_attr.specs.meta.Spelling as spelling
-use Rattle.syn_attr.specs.meta.Spelling.{IsComma, is_comma, NoComma, NoParentheses, Property, AreProperties, Listed, MayList, ListsAll, Encloses, past_path}
+use Rattle.syn_attr.specs.meta.Spelling.{IsComma, is_comma, NoComma, NoParentheses, Property, AreProperties, Listed, MayList, ListsAll, Encloses}
 use Rattle.syn_attr.specs.meta.Turns as turns
 use Rattle.syn_attr.specs.meta.Turns.{Answer, Step, Pre, Careful, HasSegment, Reached, handed_in, called, Called, Turn, Turns, Turned, Properties, ReadsProperties, Descends, Comma, comma, opening}
-use Rattle.syn_attr.proofs.meta_laws.Told.{no, char_at, not_done, end_is, path_some, path_sound, path_complete, path_refused, refused_sound, stands_at, stop}
+use Rattle.syn_attr.proofs.meta_laws.Told.{no, char_at, end_is, path_some, path_sound, refused_sound, stop}
 
 -- ---- the end
 
@@ -35,14 +34,6 @@ ended l h = end_is (front l) h
 unended : (l : Toks) → is_done l ≡ false → front l ≢ done
 unfolding is_done
 unended l h e = no (sym h ∙ ap is_end e)
-
-at_end : (l : Toks) → front l ≡ done → is_done l ≡ true
-unfolding is_done
-at_end l h = ap is_end h
-
-not_at_end : (l : Toks) → front l ≢ done → is_done l ≡ false
-unfolding is_done
-not_at_end l h = not_done (front l) h
 
 -- ---- commas
 
@@ -74,10 +65,6 @@ comma_at l = by_spans (past_mark (44 ∷ []) l) refl
         none a r (is_comma {j = j} k) h = let w : ◌≡◌ {A = Option (Spans × Toks)} None (Some (three a a a, r)) = sym h ∙ comma_past a j l r k in cc w
     by_spans (Some q) h = let c = char_at 44 l (front l) q refl h in inl (c.span, q.1, is_comma c.is)
 
--- on a list without invisible groups it is a clear spelling of a comma
-pub comma_plain : (a : Span) (l r : Toks) → Visible l → IsComma a l r → IsMark true (mark_at 4 1 (a ∷ [])) l r
-comma_plain a l r v (is_comma {j = j} h) = subst (λ z. IsMark true (mark_at 4 1 (a ∷ [])) z r) (sym (stands_at l (mark (punct 44 j a) r) v h)) (is_mark (last_char (λ e i. refl)))
-
 record CommaTo (s t : Stream) : Type 0 where
   span : Span
   spelt : IsComma span s.rest t.rest
@@ -98,9 +85,6 @@ comma_unspelt s e h =
       | inr n ↦ let w : ◌≡◌ {A = Outcome Comma} (Err (expected (codes "`,`") s)) (Err e) = sym (comma_refused s n) ∙ h in
           let u : expected (codes "`,`") s ≡ e = cc w in (n, sym u)
     ]
-
-comma_more : (a : Span) (l r : Toks) → IsComma a l r → front l ≢ done
-comma_more a l r (is_comma {j = j} h) e = let w : ◌≡◌ {A = Toks} done (mark (punct 44 j a) r) = sym e ∙ h in cc w
 
 -- ---- parentheses
 
@@ -150,9 +134,6 @@ parens_unspelt s e h =
       | inr n ↦ let w : ◌≡◌ {A = Outcome (Paren × Stream)} (Err (expected paren_name s)) (Err e) = sym n.1 ∙ h in
           let u : expected paren_name s ≡ e = cc w in (n.0, sym u)
     ]
-
-parens_refused : (s : Stream) → NoParentheses s.rest → opening s ≡ Err (expected paren_name s)
-parens_refused s n = elim (parens_ways s) [ inl k ↦ absurd (n k.span k.content k.after k.is) | inr k ↦ k.1 ]
 
 record ParensTo (s a : Stream) (c : Paren × Stream) : Type 0 where
   span : DelimSpan
@@ -257,29 +238,3 @@ read_turns step f s answer k =
     whole {reads = λ u a t. Properties step f u (Ok a) t × MayList step f u (Ok a) t} {also = λ u a t. Properties step f u (Ok a) t}
     {refuses = λ u e. (t : Stream) × Properties step f u (Err e) t × MayList step f u (Err e) t} {too = λ u e. (t : Stream) × Properties step f u (Err e) t}
     (λ u a t h. h.0) (λ u e h. (h.0, h.1)) s answer k
-
--- ---- and back
-
-module _ {F : Type 0} {step : Step F} where
-  turn_of : (f g : F) (s t : Stream) (answer : Answer) → Property step f s answer t g → Turn step f s answer t g
-  turn_of f g s t answer k = record { path = k.path; before = past_path s k.path k.rest; after = k.after; reads = path_complete k.path s k.rest k.spelt k.apart; call = k.call; stands = k.stands }
-
-  pub turns_are : (f g : F) (s t : Stream) (answer : Answer) → AreProperties step f s answer t g → Turns step f s answer t g
-  turns_are f g s t answer (spelling.no_path {e = e} h) = turns.no_path (λ k. path_refused s e (h k))
-  turns_are f g s t answer (spelling.stopped k) = turns.stopped (turn_of f g s t answer k)
-  turns_are f g s t answer (spelling.last k h) = turns.last (turn_of f g s t answer k) (at_end t.rest h)
-  turns_are f g s t answer (spelling.no_comma {a = a} k h n) = turns.no_comma (turn_of f g s a (Ok tt) k) (not_at_end a.rest h) (λ u. let w = n u in comma_refused a w.0 ∙ ap Err (sym w.1))
-  turns_are f g s t answer (spelling.last_comma {a = a} {c = c} {r = r} k i h) = turns.last_comma (turn_of f g s a (Ok tt) k) (not_at_end a.rest (comma_more c a.rest r i)) (comma_read a c r i) (at_end r h)
-  turns_are f g s t answer (spelling.next {g = h} {a = a} {c = c} {r = r} k i n more) =
-      turns.next (turn_of f h s a (Ok tt) k) (not_at_end a.rest (comma_more c a.rest r i)) (comma_read a c r i) (not_at_end r n) (turns_are h g (past a r c) t answer more)
-
-  pub properties_of : (f : F) (s t : Stream) (answer : Answer) → MayList step f s answer t → Properties step f s answer t
-  properties_of f s t answer (spelling.none h) = inl (at_end s.rest h, refl, refl)
-  properties_of f s t answer (spelling.some h k) = inr (not_at_end s.rest h, (k.0, turns_are f k.0 s t answer k.1))
-
-  pub descends_of : (f : F) (s t : Stream) (answer : Answer) → Encloses step f s answer t → Descends step f s answer t
-  descends_of f s t answer (spelling.no_parentheses h) = turns.no_parentheses (λ k. let w = h k in parens_refused s w.0 ∙ ap Err (sym w.1))
-  descends_of f s t answer (spelling.refused_inside {t = u} {d = b} {c = c} {r = r} h k) =
-      turns.refused_inside {c = (paren b, inside s b c r)} (parens_read s b c r h) (k.0, turns_are f k.0 (inside s b c r) u _ k.1)
-  descends_of f s t answer (spelling.all_inside {t = u} {d = b} {c = c} {r = r} h k) =
-      turns.all_inside {c = (paren b, inside s b c r)} (parens_read s b c r h) (k.0, turns_are f k.0 (inside s b c r) u _ k.1)

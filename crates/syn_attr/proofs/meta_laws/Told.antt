@@ -19,8 +19,6 @@ use Rattle.token_core.specs.Marks.{mark_name}
 use Rattle.token_core.specs.Reads as reads
 use Rattle.token_core.specs.Reads.{Outcome, Reader, and_then, any_text, as_lit, as_punct, as_word, expected, here, ident_name, is_done, is_end, is_joint}
 use Rattle.token_core.specs.Reads.{next_word, past, past_mark, past_next, put_first, read_mark, read_word, refused, sees_mark, sees_word, three, word_if, word_meets, word_past}
-use Rattle.token_core.specs.Clear.{Apart}
-use Rattle.token_core.specs.Rebuilt.{Visible}
 use Rattle.token_core.specs.Refusal.{Refusal, fixed}
 use Rattle.token_core.specs.Stream.{Scope, Stream}
 use Rattle.token_core.specs.Toks.{Bytes, Toks, done, word, mark, lit, group, enter, leave}
@@ -34,9 +32,6 @@ use Rattle.syn_path.specs.declared.path.SegmentStyle.TheVariants.{Nested}
 use Rattle.syn_path.specs.path.Paths.{Sep, ModPath, ModSegment, last_span, nothing, path_of, segment_of}
 use Rattle.syn_path.specs.path.Reading.{bare_path, bare_segment, bare_segments, begins, leading, nested, no_property, no_segment, sees_sep, sep}
 use Rattle.syn_path.specs.path.Spelling.{sep_at, sep_chars}
-use Rattle.syn_path.specs.path.Spelling as paths
-use Rattle.syn_path.specs.Took.{TookOne}
-use Rattle.syn_path.proofs.path_laws.Sound.{visible_path}
 use Rattle.syn_attr.specs.meta.Spelling as spelling
 use Rattle.syn_attr.specs.meta.Spelling.{IsSep, is_sep, IsLeading, no_leading, AreSegments, last_segment, more_segments, IsPropertyPath, a_property_path, BeginsLit, a_token, a_negative}
 use Rattle.syn_attr.specs.meta.Spelling.{NoFirst, nothing_left, a_literal, another, NoSep, NoWord, Breaks, NoPath, no_first, breaks_off, before, past_path}
@@ -431,12 +426,6 @@ first_ways s o l i (Some p) h =
 ways : (s : Stream) → PathAt s ⊎ ((e : Refusal) × NoPath s e)
 ways s = let k = leading_at s.rest (past_mark sep_chars s.rest) refl in first_ways s k.0 k.1 k.2 (as_word (front k.1)) refl
 
--- A list has at most one path with which no `::` goes on.
-pub path_unique : (p q : ModPath) (s : Stream) (l r : Toks) → IsPropertyPath p s.rest l → NoSep l → IsPropertyPath q s.rest r → NoSep r → (p ≡ q) × (l ≡ r)
-path_unique p q s l r i n k m =
-    let w = same_pair p q (past_path s p l) (past_path s q r) (sym (path_complete p s l i n) ∙ path_complete q s r k m) in
-    (w.0, ap (λ (z : Stream). z.rest) w.1)
-
 pub record Spells (s t : Stream) (p : ModPath) : Type 0 where
   pub spelt : IsPropertyPath p s.rest t.rest
   pub apart : NoSep t.rest
@@ -471,82 +460,3 @@ segments_some all seps l r (more_segments h c k) = omega arith
 -- it has a segment
 pub path_some : (p : ModPath) (l r : Toks) → IsPropertyPath p l r → 0 < length p.segments.0
 path_some p l r (a_property_path {all = all} {seps = seps} {m = m} i k) = segments_some all seps m r k
-
--- ---- lists without invisible groups: there the grammar of a property's path is that of paths, over any identifiers
-
-pub visible_front : (l : Toks) → Visible l → front l ≡ l
-visible_front done h = refl
-visible_front (word i k) h = refl
-visible_front (mark p k) h = refl
-visible_front (lit x k) h = refl
-visible_front (group d s c k) h = refl
-visible_front (enter s k) h = absurd h
-visible_front (leave k) h = absurd h
-
-pub stands_at : (l x : Toks) → Visible l → front l ≡ x → l ≡ x
-stands_at l x h e = sym (visible_front l h) ∙ e
-
-record Plain (p : Sep) (l r : Toks) : Type 0 where
-  first : Span
-  second : Span
-  spacing : Spacing
-  is : l ≡ mark (punct 58 Joint first) (mark (punct 58 spacing second) r)
-  mark_is : sep_at first second ≡ p
-
-sep_plain : (p : Sep) (l r : Toks) → Visible l → IsSep p l r → Plain p l r
-sep_plain p l r h (is_sep {a = a} {b = b} {j = j} {m = m} e k) =
-    let w = stands_at l (mark (punct 58 Joint a) m) h e in
-    let u = stands_at m (mark (punct 58 j b) r) (subst Visible w h) k in
-    record { first = a; second = b; spacing = j; is = w ∙ ap (mark (punct 58 Joint a)) u; mark_is = refl }
-
-module _ (clear : Bool) where
-  -- nothing that follows `::` makes a longer mark of it
-  sep_apart : (j : Spacing) (l : Toks) → Apart clear sep_chars j l
-  sep_apart j l = λ e h. refl
-
-  abbrev Plainly : List ModSegment → List Sep → Toks → Toks → Type 0
-  Plainly = paths.AreSegments clear any_text nothing
-
-  segments_plain : (all : List ModSegment) (seps : List Sep) (l r : Toks) → Visible l → AreSegments all seps l r → Plainly all seps l r
-  segments_plain all seps l r h (last_segment {i = i} w) = subst (λ z. Plainly (segment_of nothing i ∷ []) [] z r) (sym (stands_at l (word i r) h w)) (paths.last_segment refl)
-  segments_plain all seps l r h (more_segments {i = i} {p = p} {all = xs} {seps = ps} {m = m} {n = k} w c more) =
-      let a = stands_at l (word i m) h w in
-      let q = sep_plain p m k (subst Visible a h) c in
-      let u : Visible k = subst Visible q.is (subst Visible a h) in
-      subst (λ z. Plainly (segment_of nothing i ∷ xs) (p ∷ ps) z r) (sym (a ∙ ap (word i) q.is))
-      (subst (λ z. Plainly (segment_of nothing i ∷ xs) (z ∷ ps) (word i (mark (punct 58 Joint q.first) (mark (punct 58 q.spacing q.second) k))) r) q.mark_is
-      (paths.more_segments refl (sep_apart q.spacing k) (segments_plain xs ps k r u more)))
-
-  leading_plain : (o : Option Sep) (l r : Toks) → Visible l → IsLeading o l r → paths.IsLeading clear o l r × Visible r
-  leading_plain o l r h (no_leading n) = (paths.no_leading, h)
-  leading_plain o l r h (spelling.leading {p = p} c) =
-      let q = sep_plain p l r h c in (
-        subst (λ z. paths.IsLeading clear (Some p) z r) (sym q.is)
-            (subst (λ z. paths.IsLeading clear (Some z) (mark (punct 58 Joint q.first) (mark (punct 58 q.spacing q.second) r)) r) q.mark_is (paths.leading (sep_apart q.spacing r))),
-        subst Visible q.is h,
-      )
-
-  pub path_plain : (p : ModPath) (l r : Toks) → Visible l → IsPropertyPath p l r → paths.IsBarePath clear any_text nothing p l r
-  path_plain p l r h (a_property_path {o = o} {all = all} {seps = seps} {m = m} i k) = let w = leading_plain o l m h i in paths.a_bare_path w.0 (segments_plain all seps m r w.1 k)
-
-  word_apart : (i : Ident) (l r : Toks) → front l ≡ word i r → NoSep l
-  word_apart i l r h p k (is_sep {a = a} {m = m} e f) = let w : ◌≡◌ {A = Toks} (word i r) (mark (punct 58 Joint a) m) = sym h ∙ e in cc w
-
-  segments_again : (all : List ModSegment) (seps : List Sep) (l r : Toks) → Plainly all seps l r → AreSegments all seps l r × NoSep l
-  segments_again all seps l r (paths.last_segment {i = i} h) = (last_segment refl, word_apart i l r refl)
-  segments_again all seps l r (paths.more_segments {i = i} {a = a} {b = b} {j = j} {all = xs} {seps = ps} {l = m} h c k) =
-      (more_segments refl (is_sep refl refl) (segments_again xs ps m r k).0, word_apart i l (mark (punct 58 Joint a) (mark (punct 58 j b) m)) refl)
-
-  pub path_again : (p : ModPath) (l r : Toks) → paths.IsBarePath clear any_text nothing p l r → IsPropertyPath p l r
-  path_again p l r (paths.a_bare_path {all = all} {seps = seps} paths.no_leading k) = let w = segments_again all seps l r k in a_property_path (no_leading w.1) w.0
-  path_again p l r (paths.a_bare_path {all = all} {seps = seps} {m = m} (paths.leading c) k) = let w = segments_again all seps m r k in a_property_path (spelling.leading (is_sep refl refl)) w.0
-
--- The same of the grammar of paths: clear spellings and others alike are answered, where no `::` follows.
-pub spelt_complete : (clear : Bool) (p : ModPath) (s : Stream) (r : Toks) → paths.IsBarePath clear any_text nothing p s.rest r → sees_sep r ≡ false → nested s ≡ Ok (p, past_path s p r)
-spelt_complete clear p s r i n = path_complete p s r (path_again clear p s.rest r i) (λ q k h. no (sym n ∙ sep_there q r k h))
-
--- On a list without invisible groups the path spells what was taken, and the rest has none either.
-pub path_took : (s t : Stream) (p : ModPath) → Visible s.rest → nested s ≡ Ok (p, t) → TookOne IsPropertyPath s t p
-path_took s t p h e =
-    let k = path_sound s t p e in
-    record { left = λ n. ap (λ (z : Stream). z.left) (sym k.stands) ∙ n; seen = visible_path p s.rest t.rest (path_plain false p s.rest t.rest h k.spelt) h; spelt = λ n. k.spelt }

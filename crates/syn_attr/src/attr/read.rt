@@ -1,7 +1,7 @@
 //! Attributes and metas are read.
 
 ghost use Rattle.std.specs.Prelude.{◌≡◌, false, None, IfOk};
-ghost use Rattle.token_core.specs.Fronted.{Fronted};
+ghost use Rattle.token_core.specs.Fronted.{Fronted, said};
 ghost use Rattle.token_core.specs.Headline.{Headline, Heads};
 ghost use Rattle.token_core.specs.Reads.{Reads, Follows, Gives, Fails, Parses};
 ghost use Rattle.token_core.specs.Rebuilt.{Visible};
@@ -60,7 +60,7 @@ fn parse_meta_path(alloc: Global, input: &mut ParseStream<'_>) -> Result<ModPath
 fn peek_body(input: &ParseStream<'_>) -> bool
     ensures { result ≡ reading.sees_body input.now.rest }
 {
-    input.peek::<Paren>() | (input.peek::<Bracket>() | input.peek::<Brace>())
+    input.peek::<Paren>() || (input.peek::<Bracket>() || input.peek::<Brace>())
 }
 
 /// Whether an `=` is at the front that is neither `==` nor `=>`.
@@ -68,7 +68,7 @@ fn peek_body(input: &ParseStream<'_>) -> bool
 fn peek_equals(input: &ParseStream<'_>) -> bool
     ensures { result ≡ reading.sees_equals input.now.rest }
 {
-    input.peek::<Eq>() & (!input.peek::<EqEq>() & !input.peek::<FatArrow>())
+    input.peek::<Eq>() && (!input.peek::<EqEq>() && !input.peek::<FatArrow>())
 }
 
 #[tactic(auto, using(token_core::proofs::Suffixes::follows), unfolding(crate::specs::attr::Reading::meta_after))]
@@ -129,12 +129,15 @@ impl Parse for MetaList {
 
     ghost promise = { Headline grammars.list };
 
+    ghost fronts = { said grammars.list_front };
+
     /// On the front of a list without invisible groups it took what the list spells.
     fn parse(alloc: Global, input: &mut ParseStream<'_>) -> Result<MetaList, Error>
         ensures reads { Reads (reading.list input.old) result input.new }
         ensures within { Follows input.old input.new }
-        ensures front { Visible input.old.rest → IfOk result (λ x. IsMetaList false x input.old.rest input.new.rest) }
+        ensures takes { Visible input.old.rest → IfOk result (λ x. IsMetaList false x input.old.rest input.new.rest) }
         ensures promise { Heads grammars.list input.old result input.new }
+        ensures fronts { Fronted grammars.list_front input.old result input.new }
     {
         parse_meta_list(alloc, input)
     }
@@ -230,7 +233,7 @@ fn single_parse_inner<X: Subtree>(
 fn peek_inner(input: &ParseStream<'_>) -> bool
     ensures { result ≡ reading.sees_inner input.now.rest }
 {
-    input.peek::<Pound>() & input.peek2::<Not>()
+    input.peek::<Pound>() && input.peek2::<Not>()
 }
 
 /// Outer attributes, as long as a `#` follows.
@@ -274,23 +277,25 @@ impl<X: Subtree> Attribute<X> {
         input: &mut ParseStream<'_>,
     ) -> Result<Items<Attribute<X>>, Error>
         ensures parses { Parses (reading.outer X.reads) result input.old input.new }
-        ensures front { Visible input.old.rest → input.new.left ≡ None →
+        ensures takes { Visible input.old.rest → input.new.left ≡ None →
             IfOk result (λ all. AreAll (IsOuter X.spells false) all input.old.rest input.new.rest) }
-        ensures headline { Heads (grammars.outer X.Subtree) input.old result input.new }
+        ensures promise { Heads (grammars.outer X.Subtree) input.old result input.new }
         ensures fronts { Fronted (grammars.outer_front X.Subtree) input.old result input.new }
     {
         parse_outers(alloc, input)
     }
 
-    /// Reads inner attributes as long as a `#` and a `!` follow, of which there may be none. It promises what `parse_outer` does, but of fronts.
+    /// Reads inner attributes as long as a `#` and a `!` follow, of which there may be none. It promises what `parse_outer`
+    /// does, on fronts where the end follows or anything but a `#` before a `!`.
     pub fn parse_inner(
         alloc: Global,
         input: &mut ParseStream<'_>,
     ) -> Result<Items<Attribute<X>>, Error>
         ensures parses { Parses (reading.inner X.reads) result input.old input.new }
-        ensures front { Visible input.old.rest → input.new.left ≡ None →
+        ensures takes { Visible input.old.rest → input.new.left ≡ None →
             IfOk result (λ all. AreAll (IsInner X.spells false) all input.old.rest input.new.rest) }
-        ensures headline { Heads (grammars.inner X.Subtree) input.old result input.new }
+        ensures promise { Heads (grammars.inner X.Subtree) input.old result input.new }
+        ensures fronts { Fronted (grammars.inner_front X.Subtree) input.old result input.new }
     {
         parse_inners(alloc, input)
     }

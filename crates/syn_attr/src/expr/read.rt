@@ -52,7 +52,7 @@ fn parse_last_literal(alloc: Global, input: &mut ParseStream<'_>) -> Result<Opti
 fn peek_attribute(input: &ParseStream<'_>) -> bool
     ensures { result ≡ reading.sees_attribute input.now.rest }
 {
-    input.peek::<Pound>() & input.peek2::<Bracket>()
+    input.peek::<Pound>() && input.peek2::<Bracket>()
 }
 
 #[tactic(auto, using(token_core::proofs::Suffixes::follows), unfolding(crate::specs::attr::Reading::other))]

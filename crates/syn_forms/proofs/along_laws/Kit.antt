@@ -12,7 +12,7 @@ use Rattle.syn_path.specs.Took.{Along}
 use Rattle.syn_path.proofs.Along.{bind, closed, either, in_group_along, list_along, made, mark, named, on_to, optional_along, refused, stays, terminated_along, word}
 use Rattle.syn_path.proofs.Along.{lifetime as lifetime_along}
 use Rattle.syn_forms.specs.groups.Reading.{in_brackets, in_invisible, in_parens}
-use Rattle.syn_forms.specs.lists.Reading.{list_from, more_elements}
+use Rattle.syn_forms.specs.lists.Reading.{list_from}
 use Rattle.syn_forms.specs.nested.Below.{below, below_if, held}
 use Rattle.syn_forms.specs.verbatim.Reading.{since}
 
@@ -44,10 +44,6 @@ module _ {A P : Type 0} (stops : Bool → Toks → Bool) {value : Reader A} (mor
   pub list_from_along : (x : A) → Along (list_from stops value more joint x)
   unfolding list_from
   list_from_along x = either _ (bind k (λ p. bind (list_along stops more h k false) (λ v. stays _))) (stays _)
-
-pub more_along : {A : Type 0} {value : Reader A} → Along value → (x : A) → Along (more_elements value x)
-unfolding more_elements
-more_along h x = search (bind, stays, mark, terminated_along, h)
 
 -- ---- below a limit
 

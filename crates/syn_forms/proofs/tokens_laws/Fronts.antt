@@ -1,6 +1,7 @@
 -- A grammar of a relation on the front of a list: what is read, where it is read, and what prints spell.
 use Rattle.std.specs.Prelude.{IfOk}
-use Rattle.std.proofs.Common.{◌≡◌, Bool, true, false, None, Result, Ok, Err, subst, sym, ◌∙◌}
+use Rattle.std.proofs.Common.{◌≡◌, Bool, true, false, None, Result, Ok, Err, refl, subst, sym, ◌∙◌}
+use Rattle.token_core.specs.Fronted.{Fronting, FrontLaws}
 use Rattle.token_core.specs.Headline.{Grammar, Lawful}
 use Rattle.token_core.specs.Prints.{Print}
 use Rattle.token_core.specs.Reads.{Reader, Reads, leaves, left_here}
@@ -64,3 +65,17 @@ module _ {A : Type 0} (spells : Bool → A → Toks → Toks → Type 0) (normal
     stays = λ a l h p. (again a l done h).stays;
     same = λ a l h p. (again a l done h).same;
   }
+
+-- ---- the same on the front of a list, before what may follow
+
+pub front_lawful_by : {A : Type 0} (F : Fronting A) → ((s t : Stream) (a : A) → Visible s.rest → F.grammar.reader s ≡ Ok (a, t) → TookOne (F.begins false) s t a) →
+    ((s : Stream) (a : A) (k : Toks) → F.begins true a s.rest k → F.follows k ≡ true → Reads_to F.grammar.reader a s.rest k s.left s.last s.scope) →
+    ((a : A) (l r : Toks) → F.begins false a l r → AgainFront (F.begins true) F.grammar.normal F.grammar.print a l r) → FrontLaws F
+front_lawful_by F sound complete again = record {
+  sound = λ s t a n v e c. let k = sound s t a v e in (k.seen, λ o. k.spelt c);
+  complete = λ s a k n v i o. let w = complete s a k i o in (at k s.left w.last s.scope, w.reads, refl, n);
+  spells = λ a l r k i p o. (again a l r i).spelt k;
+  visible = λ a l r k i u p v o. (again a l r i).visible k u v;
+  stays = λ a l r k i p. (again a l r i).stays;
+  same = λ a l r k i p. (again a l r i).same;
+}

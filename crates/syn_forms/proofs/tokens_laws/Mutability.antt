@@ -3,6 +3,7 @@ use Rattle.std.specs.Prelude.{IfOk}
 use Rattle.std.proofs.Common.{◌≡◌, ℕ, true, false, Option, Result, Ok, inl, inr, refl}
 use Rattle.token_core.specs.declared.span.Span.{Span}
 use Rattle.token_core.specs.declared.word.Word.{Word}
+use Rattle.token_core.specs.Fronted.{FrontLaws}
 use Rattle.token_core.specs.Headline.{Lawful}
 use Rattle.token_core.specs.Marks as marks
 use Rattle.token_core.specs.Prints as p
@@ -24,7 +25,7 @@ use Rattle.syn_forms.specs.tokens.Grammars as grammars
 use Rattle.syn_forms.specs.tokens.Printing as printing
 use Rattle.syn_forms.specs.tokens.Reading.{sees_named, mutability}
 use Rattle.syn_forms.specs.tokens.Spelling.{IsMutability, a_const, a_mut}
-use Rattle.syn_forms.proofs.tokens_laws.Fronts.{taken_as, taken_front, plainly, lawful_by}
+use Rattle.syn_forms.proofs.tokens_laws.Fronts.{taken_as, taken_front, plainly, lawful_by, front_lawful_by}
 
 pub mutability_sound : (s t : Stream) (q : PointerMutability) → Visible s.rest → mutability s ≡ Ok (q, t) → Taken IsMutability s t q
 unfolding mutability
@@ -76,5 +77,11 @@ mutability_again x l r (a_mut {w = a} i) = let k = word_front a l r i in record 
 pub mutability_lawful : Lawful grammars.mutability
 mutability_lawful = lawful_by (λ clear. IsMutability) (λ (z : PointerMutability). z) printing.pointer mutability (λ s t a v e. plainly {Is = IsMutability} visible_mutability s t a v (mutability_sound s t a v e)) (λ s a h. mutability_complete a s.rest done s.left s.last s.scope h) mutability_again
 
+-- on the front of a list, whatever follows
+pub mutability_front_lawful : FrontLaws grammars.mutability_front
+mutability_front_lawful =
+    front_lawful_by grammars.mutability_front (λ s t a v e. plainly {Is = IsMutability} visible_mutability s t a v (mutability_sound s t a v e)) (λ s a k h o. mutability_complete a s.rest k s.left s.last s.scope h) mutability_again
+
+-- what was taken
 pub mutability_front : (s t : Stream) (q : Result (PointerMutability) Refusal) → Reads (mutability s) q t → Visible s.rest → IfOk q (λ x. IsMutability x s.rest t.rest)
 mutability_front = taken_front {Is = IsMutability} mutability mutability_sound

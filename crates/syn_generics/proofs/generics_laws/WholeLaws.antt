@@ -22,6 +22,11 @@ use Rattle.syn_generics.proofs.generics_laws.complete.Whole as met
 use Rattle.syn_generics.proofs.generics_laws.sound.Whole as told
 use Rattle.syn_ty.proofs.ty_laws.WholeLaws.{lawful}
 
+-- a list that is not empty has some values
+pub has_some : {T : Type 0} (xs : List T) → xs ≢ [] → some xs ≡ true
+has_some [] h = absurd (h refl)
+has_some (x ∷ xs) h = refl
+
 -- what prints its normal form clearly is read again, where the grammar meets its laws
 reprinted : {F : Type 0} (Is : Manner → F → Toks → Type 0) {n : F → F} {f : F → Print} {reader : Reader F} → Lawful (promise Is n f reader) → (x : F) (l : Toks) → Again (Is clearly) n f x l → Visible l → Reprinted (promise Is n f reader) x
 reprinted Is {n = n} {f = f} laws x l w v =
@@ -38,10 +43,6 @@ module _ {A E : Type 0} (attrs : Attributes A) (exprs : Expressions E) (g : Give
   stripped_reprinted x q = reprinted (by.SpellsGenerics attrs.spells exprs.spells) generics_lawful (stripped x) q.0 (again.stripped_again a x q.0 q.2) q.1
 
   -- of a clause, where it has predicates
-  has_some : {T : Type 0} (xs : List T) → xs ≢ [] → some xs ≡ true
-  has_some [] h = absurd (h refl)
-  has_some (x ∷ xs) h = refl
-
   where_clause_again : (x : WhereClauseOf A E) (l : Toks) → by.SpellsClause attrs.spells exprs.spells plainly x l → x.predicates.0 ≢ [] → Again (by.SpellsClause attrs.spells exprs.spells clearly) (clauses.where_clause attrs.normal exprs.normal) (shown_clauses.where_clause attrs.shown exprs.values) x l
   where_clause_again x l i h = again.where_clause_again a x l i (has_some x.predicates.0 h)
 

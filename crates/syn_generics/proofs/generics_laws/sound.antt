@@ -1,5 +1,3 @@
 pub mod Alone
-pub mod AlongAlone
 pub mod Clauses
-pub mod Higher
 pub mod Whole

@@ -1,14 +1,13 @@
 -- The promise of each reader of this layer: which lists its trees spell, their normal form, their print, which have clear verbatim parts, and the read.
-use Rattle.std.specs.Prelude.{◌≢◌, Bool, ◌||◌, [], Option}
-use Rattle.token_core.specs.declared.tree.Delimiter.TheVariants.{Brace}
+use Rattle.std.specs.Prelude.{◌≢◌, Bool, not, ◌&&◌, [], Option}
 use Rattle.token_core.specs.Fronted.{Fronting}
 use Rattle.token_core.specs.Headline.{Grammar}
 use Rattle.token_core.specs.Prints as p
-use Rattle.token_core.specs.Reads.{is_done, sees_group}
 use Rattle.token_core.specs.Rebuilt.{Visible}
 use Rattle.token_core.specs.Tokens as token
 use Rattle.token_core.specs.Toks.{Toks}
 use Rattle.syn_path.specs.Traits.{Attributes, Expressions}
+use Rattle.syn_forms.specs.predicates.Reading.{ends_predicate}
 use Rattle.syn_generics.specs.declared.generics.GenericsOf.{GenericsOf}
 use Rattle.syn_generics.specs.declared.generics.WhereClauseOf.{WhereClauseOf}
 use Rattle.syn_generics.specs.declared.generics.WherePredicateOf.{WherePredicateOf}
@@ -17,15 +16,20 @@ use Rattle.syn_generics.specs.generics.Normal as normal_clauses
 use Rattle.syn_generics.specs.generics.Printing as shown_clauses
 use Rattle.syn_ty.specs.ty.Parts.{plainly}
 use Rattle.syn_generics.specs.generics.Spelt as spelt
-use Rattle.syn_ty.specs.ty.Promises.{fronting, manner, promise}
+use Rattle.syn_ty.specs.ty.Frontings.{fronting}
+use Rattle.syn_ty.specs.ty.Promises.{manner, promise}
 
--- what may follow a where clause on the front of a list, or where none is: nothing, a `;` or braces
+-- what may follow a predicate on the front of a list: nothing, braces, a comma, a `;`, a `=`, or a `:` that is not `::`
+abbrev pub follows_predicate : Toks → Bool
+follows_predicate = ends_predicate
+
+-- a where clause, or where none is: the same, but no comma
 abbrev pub follows_clause : Toks → Bool
-follows_clause k = is_done k || (token.sees_semi k || sees_group Brace k)
+follows_clause k = ends_predicate k && not (token.sees_comma k)
 
--- and what may follow the generics there: the same, or a `where`
+-- and generics, or where none are: anything but a `<`
 abbrev pub follows_generics : Toks → Bool
-follows_generics k = token.sees_where k || follows_clause k
+follows_generics k = not (token.sees_lt k)
 
 module _ {A E : Type 0} (attrs : Attributes A) (exprs : Expressions E) where
   abbrev pub generics : Grammar (GenericsOf A E)
@@ -45,6 +49,15 @@ module _ {A E : Type 0} (attrs : Attributes A) (exprs : Expressions E) where
     reader = clauses.where_clause attrs.reads exprs.reads;
   }
 
+  -- on the front of a list
+  abbrev pub where_clause_front : Fronting (WhereClauseOf A E)
+  where_clause_front = record {
+    grammar = where_clause;
+    begins = λ clear x l k. spelt.BeginsClause attrs.spells exprs.spells (manner clear) x l k;
+    follows = follows_clause;
+    plain = λ x k. (x.predicates.0 ≢ []) × (l : Toks) × (r : Toks) × Visible l × spelt.BeginsClause attrs.spells exprs.spells plainly x l r;
+  }
+
   abbrev pub optional_where_clause : Grammar (Option (WhereClauseOf A E))
   optional_where_clause =
       promise (spelt.SpellsOptionalClause attrs.spells exprs.spells) (normal_clauses.where_option attrs.normal exprs.normal) (p.optional (shown_clauses.where_clause attrs.shown exprs.values)) (clauses.optional_where_clause attrs.reads exprs.reads)
@@ -55,3 +68,7 @@ module _ {A E : Type 0} (attrs : Attributes A) (exprs : Expressions E) where
 
   abbrev pub predicate : Grammar (WherePredicateOf A E)
   predicate = promise (spelt.SpellsPredicate attrs.spells exprs.spells) (normal_clauses.predicate attrs.normal exprs.normal) (shown_clauses.predicate attrs.shown exprs.values) (clauses.predicate attrs.reads exprs.reads)
+
+  -- on the front of a list
+  abbrev pub predicate_front : Fronting (WherePredicateOf A E)
+  predicate_front = fronting predicate (spelt.BeginsPredicate attrs.spells exprs.spells) follows_predicate

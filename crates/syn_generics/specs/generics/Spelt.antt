@@ -1,4 +1,4 @@
--- Which lists the trees of this layer spell: for each reader all of a list, and for two the front of one.
+-- Which lists the trees of this layer spell: for each reader all of a list, and the front of one.
 use Rattle.std.specs.Prelude.{Bool, List, Option}
 use Rattle.token_core.specs.Toks.{Toks}
 use Rattle.syn_path.specs.Values.{SpelledValues}
@@ -21,6 +21,9 @@ module _ {A E : Type 0} (attrs : Bool → List A → Toks → Toks → Type 0) (
   abbrev pub SpellsClause : Manner → WhereClauseOf A E → Toks → Type 0
   SpellsClause = Spells attrs values IsWhereClause
 
+  abbrev pub BeginsClause : Manner → Relation (WhereClauseOf A E)
+  BeginsClause = Begins attrs values IsWhereClause
+
   abbrev pub SpellsOptionalClause : Manner → Option (WhereClauseOf A E) → Toks → Type 0
   SpellsOptionalClause = Spells attrs values (λ part how. IsOptional (IsWhereClause part how))
 
@@ -29,3 +32,6 @@ module _ {A E : Type 0} (attrs : Bool → List A → Toks → Toks → Type 0) (
 
   abbrev pub SpellsPredicate : Manner → WherePredicateOf A E → Toks → Type 0
   SpellsPredicate = Spells attrs values IsPredicate
+
+  abbrev pub BeginsPredicate : Manner → Relation (WherePredicateOf A E)
+  BeginsPredicate = Begins attrs values IsPredicate

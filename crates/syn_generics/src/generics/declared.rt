@@ -41,7 +41,7 @@ use token_core::{
 fn sees_lifetime_predicate(input: &ParseStream<'_>) -> bool
     ensures { result ≡ reading.sees_lifetime_predicate input.now.rest }
 {
-    input.peek::<Lifetime>() & input.peek2::<Colon>()
+    input.peek::<Lifetime>() && input.peek2::<Colon>()
 }
 
 /// Whether after a `<` a lifetime or an identifier stands before `>`, `,`, `=` or a `:` that is not `::`.
@@ -49,11 +49,11 @@ fn sees_lifetime_predicate(input: &ParseStream<'_>) -> bool
 fn sees_first_param(input: &ParseStream<'_>) -> bool
     ensures { result ≡ reading.sees_first_param input.now.rest }
 {
-    (input.peek2::<Lifetime>() | input.peek2::<Ident>())
-        & (input.peek3::<Gt>()
-            | input.peek3::<Comma>()
-            | (input.peek3::<Colon>() & !input.peek3::<PathSep>())
-            | input.peek3::<Eq>())
+    (input.peek2::<Lifetime>() || input.peek2::<Ident>())
+        && (input.peek3::<Gt>()
+            || input.peek3::<Comma>()
+            || (input.peek3::<Colon>() && !input.peek3::<PathSep>())
+            || input.peek3::<Eq>())
 }
 
 /// Whether generics begin here, and no qualified type (syn's `choose_generics_over_qpath`).
@@ -62,10 +62,10 @@ fn sees_generics(input: &ParseStream<'_>) -> bool
     ensures { result ≡ reading.sees_generics input.now.rest }
 {
     input.peek::<Lt>()
-        & (input.peek2::<Gt>()
-            | input.peek2::<Pound>()
-            | sees_first_param(input)
-            | input.peek2::<Const>())
+        && (input.peek2::<Gt>()
+            || input.peek2::<Pound>()
+            || sees_first_param(input)
+            || input.peek2::<Const>())
 }
 
 /// Refuses generics after `where`.
@@ -298,7 +298,7 @@ impl<A: Attributes, E: Value> Parse for GenericsOf<A, E> {
         ensures reads { Reads (alone.generics A.reads E.reads input.old) result input.new }
         ensures within { Follows input.old input.new }
         ensures promise { Heads (promises.generics A.Attributes E.Value) input.old result input.new }
-        ensures front { Takes (fronts.generics A.spells E.spells) input.old result input.new }
+        ensures takes { Takes (fronts.generics A.spells E.spells) input.old result input.new }
         ensures fronts { Fronted (promises.generics_front A.Attributes E.Value) input.old result input.new }
     {
         parse_generics(alloc, input)
@@ -322,11 +322,14 @@ impl<A: Attributes, E: Value> Parse for WhereClauseOf<A, E> {
 
     ghost promise = { Headline (promises.where_clause A.Attributes E.Value) };
 
+    ghost fronts = { said (promises.where_clause_front A.Attributes E.Value) };
+
     fn parse(alloc: Global, input: &mut ParseStream<'_>) -> Result<WhereClauseOf<A, E>, Error>
         ensures reads { Reads (alone.where_clause A.reads E.reads input.old) result input.new }
         ensures within { Follows input.old input.new }
         ensures promise { Heads (promises.where_clause A.Attributes E.Value) input.old result input.new }
-        ensures front { Takes (fronts.where_clause A.spells E.spells) input.old result input.new }
+        ensures takes { Takes (fronts.where_clause A.spells E.spells) input.old result input.new }
+        ensures fronts { Fronted (promises.where_clause_front A.Attributes E.Value) input.old result input.new }
         ensures printed { IfOk result (λ x. (promises.optional_where_clause A.Attributes E.Value).plain (Some x) →
             Reprinted (promises.optional_where_clause A.Attributes E.Value) (Some x)) }
     {
@@ -343,7 +346,7 @@ impl<A: Attributes, E: Value> WhereClauseOf<A, E> {
     ) -> Result<Option<WhereClauseOf<A, E>>, Error>
         ensures parses { Parses (alone.optional_where_clause A.reads E.reads) result input.old input.new }
         ensures promise { Heads (promises.optional_where_clause A.Attributes E.Value) input.old result input.new }
-        ensures front { Takes (fronts.optional_where_clause A.spells E.spells) input.old result input.new }
+        ensures takes { Takes (fronts.optional_where_clause A.spells E.spells) input.old result input.new }
         ensures fronts { Fronted (promises.optional_where_clause_front A.Attributes E.Value)
             input.old result input.new }
     {
@@ -381,11 +384,14 @@ impl<A: Attributes, E: Value> Parse for WherePredicateOf<A, E> {
 
     ghost promise = { Headline (promises.predicate A.Attributes E.Value) };
 
+    ghost fronts = { said (promises.predicate_front A.Attributes E.Value) };
+
     fn parse(alloc: Global, input: &mut ParseStream<'_>) -> Result<WherePredicateOf<A, E>, Error>
         ensures reads { Reads (alone.predicate A.reads E.reads input.old) result input.new }
         ensures within { Follows input.old input.new }
         ensures promise { Heads (promises.predicate A.Attributes E.Value) input.old result input.new }
-        ensures front { Takes (fronts.predicate A.spells E.spells) input.old result input.new }
+        ensures takes { Takes (fronts.predicate A.spells E.spells) input.old result input.new }
+        ensures fronts { Fronted (promises.predicate_front A.Attributes E.Value) input.old result input.new }
     {
         parse_predicate(alloc, input)
     }

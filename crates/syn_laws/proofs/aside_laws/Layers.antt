@@ -37,7 +37,7 @@ use Rattle.syn_ty.specs.declared.ty.TypePathOf.{roll-TypePathOf, map-TypePathOf}
 use Rattle.syn_ty.specs.generics.Params.{Colon, Eq, trait_bound_of, type_param_of}
 use Rattle.syn_ty.specs.path.Paths.{path_of, parens_of, assoc_type_of, assoc_const_of, constraint_of}
 use Rattle.syn_ty.specs.ty.Reading.{is_trait, trait_layer}
-use Rattle.syn_ty.specs.ty.Trees.{GenericParam, TypeParam, ConstParam, BoundLifetimes, TypeParamBound, TraitBound, PathArguments, Path, PathSegment, GenericArgument, AngleBracketed, AssocType, Constraint, TypeTree, QSelf, TypeArray, TypeFnPtr, TypeGroup, TypeImplTrait, TypeParen, TypePath, TypePtr, TypeReference, TypeSlice, TypeTraitObject, TypeTuple, NamedArg, ReturnType, Layer}
+use Rattle.syn_ty.specs.ty.Trees.{GenericParam, TypeParam, ConstParam, BoundLifetimes, TypeParamBound, TraitBound, PathArguments, Path, PathSegment, GenericArgument, AngleBracketed, AssocType, Constraint, TypeTree, QSelf, TypeArray, TypeFnPtr, TypeImplTrait, TypeParen, TypePath, TypePtr, TypeReference, TypeSlice, TypeTraitObject, TypeTuple, NamedArg, ReturnType, Layer}
 use Rattle.syn_ty.specs.ty.Types.{Plus, Comma, fn_ptr_with, named_arg_of, qualified_with}
 use Rattle.syn_path.specs.aside.Paths as paths
 use Rattle.syn_path.specs.aside.Tokens as tokens
@@ -93,9 +93,6 @@ module _ {A E : Type 0} (na : List A → List A) (ne : E → E) where
 
   pub free-FnPtr : (x : TypeFnPtr A E) → free.ty na ne (v.FnPtr x) ≡ v.FnPtr (free.fn_ptr na ne x)
   free-FnPtr x = ap (free.ty na ne) (sym (v.rolls-FnPtr x)) ∙ by_ty (o.FnPtr x)
-
-  pub free-Group : (x : TypeGroup A E) → free.ty na ne (v.Group x) ≡ v.Group (free.group na ne x)
-  free-Group x = ap (free.ty na ne) (sym (v.rolls-Group x)) ∙ by_ty (o.Group x)
 
   pub free-ImplTrait : (x : TypeImplTrait A E) → free.ty na ne (v.ImplTrait x) ≡ v.ImplTrait (free.impl_trait na ne x)
   free-ImplTrait x = ap (free.ty na ne) (sym (v.rolls-ImplTrait x)) ∙ by_ty (o.ImplTrait x)

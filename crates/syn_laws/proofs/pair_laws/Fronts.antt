@@ -3,7 +3,7 @@ use Rattle.std.specs.Prelude.{◌≢◌, IsErr, IsErrAnd}
 use Rattle.std.proofs.Common.{◌≡◌, true, false, ◌++◌, Option, Some, None, Result, Ok, Err, refl, sym, ◌∙◌, ap, subst, arith}
 use Rattle.token_core.specs.declared.error.ErrorKind.TheVariants.{OutOfMemory}
 use Rattle.token_core.specs.declared.span.Span.{Span}
-use Rattle.token_core.specs.Fronted.{Begun, FrontAgain, Fronting, Fronts, unsaid, said, Fronted, KeepsFront, ReadTo, printed_on}
+use Rattle.token_core.specs.Fronted.{Begun, FrontAgain, Fronting, Fronts, unsaid, said, given, Fronted, KeepsFront, ReadTo, printed_on}
 use Rattle.token_core.specs.Prints as p
 use Rattle.token_core.specs.Reads.{Follows, Outcome, first_of}
 use Rattle.token_core.specs.Rebuilt.{Visible}
@@ -121,19 +121,19 @@ module _ {T : Type 0} (F : Fronting T) (may : BeforeComma F) where
       comma_follows : F.follows t.rest ≡ true
       comma_follows = may t.rest (mark_seen false c t.rest u.rest mark)
 
-      reprinted : F.follows w.rest ≡ true → F.grammar.plain a → F.grammar.plain b → (k : Toks) → Visible k → F.follows k ≡ true → FrontAgain (fronting F) (pair_of a c b) k
-      reprinted f x y k z o =
-          let e = second.reprint f y k z o in
+      reprinted : F.follows w.rest ≡ true → (k : Toks) → F.plain a (row (p.mark c) (printed_on F b k)) → F.plain b k → Visible k → F.follows k ≡ true → FrontAgain (fronting F) (pair_of a c b) k
+      reprinted f k x y z o =
+          let e = second.reprint f k y z o in
           let m = mark_again false c t.rest u.rest (printed_on F b k) mark in
           let l = row (p.mark c) (printed_on F b k) in
-          pair_again a b c k m (first.reprint comma_follows x l (mark_whole true c l (printed_on F b k) m e.visible) (may l (mark_seen true c l (printed_on F b k) m))) e
+          pair_again a b c k m (first.reprint comma_follows l x (mark_whole true c l (printed_on F b k) m e.visible) (may l (mark_seen true c l (printed_on F b k) m))) e
 
       begun : Begun (fronting F) s w (pair_of a c b)
       begun = record {
         visible = second.visible;
         sound = λ o. record { at = t.rest; past = u.rest; first = first.sound comma_follows; comma = mark; second = second.sound o };
         unique = pair_same;
-        reprint = λ f x. reprinted f x.0 x.1;
+        reprint = λ f k x. reprinted f k x.0 x.1;
       }
 
     begun_clean : Follows t u → Follows u w → w.left ≡ None → Begun (fronting F) s w (pair_of a c b)
@@ -157,16 +157,20 @@ module _ {T : Type 0} where
   pub keeps_no_first : (f : Fronts T) (s t : Stream) (e : Refusal) (r : Result (Pair T) Refusal) → IsErr r × IsErrAnd r (λ z. z ≡ e) → KeepsFront f s (Err e) t → KeepsPair f s r t
   keeps_no_first unsaid s t e r q h = tt
   keeps_no_first (said F) s t e r q h = λ may. subst (λ z. Fronted (fronting F) s z t) (sym (refusal_is r e q)) (no_first F may s t e h)
+  keeps_no_first (given P F) s t e r q h = λ p may. subst (λ z. Fronted (fronting F) s z t) (sym (refusal_is r e q)) (no_first F may s t e (h p))
 
   pub keeps_no_comma : (f : Fronts T) (s t u : Stream) (a : T) (e : Refusal) (r : Result (Pair T) Refusal) → IsErr r × IsErrAnd r (λ z. z ≡ e) → KeepsFront f s (Ok a) t → (e.kind ≢ OutOfMemory → token.comma t ≡ Err e) → KeepsPair f s r u
   keeps_no_comma unsaid s t u a e r q h g = tt
   keeps_no_comma (said F) s t u a e r q h g = λ may. subst (λ z. Fronted (fronting F) s z u) (sym (refusal_is r e q)) (no_comma F may s t u a e h g)
+  keeps_no_comma (given P F) s t u a e r q h g = λ p may. subst (λ z. Fronted (fronting F) s z u) (sym (refusal_is r e q)) (no_comma F may s t u a e (h p) g)
 
   pub keeps_no_second : (f : Fronts T) (s t u w : Stream) (a : T) (c : token.Comma) (e : Refusal) (r : Result (Pair T) Refusal) → IsErr r × IsErrAnd r (λ z. z ≡ e) →
       KeepsFront f s (Ok a) t → token.comma t ≡ Ok (c, u) → KeepsFront f u (Err e) w → KeepsPair f s r w
   keeps_no_second unsaid s t u w a c e r q h g i = tt
   keeps_no_second (said F) s t u w a c e r q h g i = λ may. subst (λ z. Fronted (fronting F) s z w) (sym (refusal_is r e q)) (no_second F may s t u w a c e h g i)
+  keeps_no_second (given P F) s t u w a c e r q h g i = λ p may. subst (λ z. Fronted (fronting F) s z w) (sym (refusal_is r e q)) (no_second F may s t u w a c e (h p) g (i p))
 
   pub keeps_pair : (f : Fronts T) (s t u w : Stream) (a b : T) (c : token.Comma) → KeepsFront f s (Ok a) t → token.comma t ≡ Ok (c, u) → KeepsFront f u (Ok b) w → Follows t u → Follows u w → KeepsPair f s (Ok (pair_of a c b)) w
   keeps_pair unsaid s t u w a b c h g i j k = tt
   keeps_pair (said F) s t u w a b c h g i j k = λ may. paired F may s t u w a b c h g i j k
+  keeps_pair (given P F) s t u w a b c h g i j k = λ p may. paired F may s t u w a b c (h p) g (i p) j k

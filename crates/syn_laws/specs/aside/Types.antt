@@ -34,7 +34,7 @@ use Rattle.syn_path.specs.declared.path.QSelfOf.{QSelfOf}
 use Rattle.syn_ty.specs.generics.Modifiers.{modifiers_of}
 use Rattle.syn_ty.specs.generics.Params.{bound_lifetimes_of, capture_of, const_param_of, lifetime_param_of, trait_bound_of, type_param_of}
 use Rattle.syn_ty.specs.path.Paths.{angle_of, parens_of, assoc_type_of, assoc_const_of, constraint_of}
-use Rattle.syn_ty.specs.ty.Trees.{Layer, GenericParam, TypeParam, ConstParam, BoundLifetimes, TypeParamBound, TraitBound, PathArguments, Path, PathSegment, GenericArgument, AngleBracketed, AssocType, AssocConst, Constraint, Parenthesized, TypeTree, QSelf, TypeArray, TypeFnPtr, TypeGroup, TypeImplTrait, TypeParen, TypePath, TypePtr, TypeReference, TypeSlice, TypeTraitObject, TypeTuple, NamedArg, ReturnType}
+use Rattle.syn_ty.specs.ty.Trees.{Layer, GenericParam, TypeParam, ConstParam, BoundLifetimes, TypeParamBound, TraitBound, PathArguments, Path, PathSegment, GenericArgument, AngleBracketed, AssocType, Constraint, Parenthesized, TypeTree, QSelf, TypeArray, TypeFnPtr, TypeGroup, TypeImplTrait, TypeParen, TypePath, TypePtr, TypeReference, TypeSlice, TypeTraitObject, TypeTuple, NamedArg, ReturnType}
 use Rattle.syn_ty.specs.ty.Types.{array_with, fn_ptr_with, group_with, impl_trait_with, infer_with, macro_type_with, named_arg_of, never_with, paren_with, ptr_with, qself_of, qualified_with, reference_with, slice_with, trait_object_with, tuple_with, variadic_of}
 use Rattle.syn_path.specs.aside.Paths as paths
 use Rattle.syn_path.specs.aside.Paths.{mac}
@@ -235,9 +235,6 @@ module _ {A E : Type 0} (attrs : List A → List A) (value : E → E) where
 
   abbrev pub parenthesized : Parenthesized A E → Parenthesized A E
   parenthesized x = parens_of (paren_token x.paren_token) (many named_arg mark x.inputs) (return_type x.output)
-
-  abbrev pub assoc_const : AssocConst A E → AssocConst A E
-  assoc_const x = assoc_const_of (ident x.ident) (option_map angle x.generics) (mark x.eq_token) (value x.value)
 
   abbrev pub bound_lifetimes : BoundLifetimes A E → BoundLifetimes A E
   bound_lifetimes = binder_by param

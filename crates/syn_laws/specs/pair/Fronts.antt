@@ -1,6 +1,6 @@
 -- Two values with a comma between them: which lists they spell, what they print, how they are read, and what that read promises on the front of a list.
 use Rattle.std.specs.Prelude.{◌≡◌, Bool, true, ◌++◌, Result, Ok, Err}
-use Rattle.token_core.specs.Fronted.{Fronting, Fronts, unsaid, said, Fronted}
+use Rattle.token_core.specs.Fronted.{Fronting, Fronts, unsaid, said, given, Fronted, printed_on}
 use Rattle.token_core.specs.Headline.{Grammar}
 use Rattle.token_core.specs.Prints as p
 use Rattle.token_core.specs.Reads.{Reader, ◌>>=◌, pure}
@@ -9,6 +9,7 @@ use Rattle.token_core.specs.Spellings.{IsMark}
 use Rattle.token_core.specs.Stream.{Stream}
 use Rattle.token_core.specs.Tokens as token
 use Rattle.token_core.specs.Toks.{Toks, done}
+use Rattle.token_core.specs.Trees.{row}
 use Rattle.syn_laws.specs.declared.pair.Pair.{Pair}
 
 abbrev pub pair_of : {T : Type 0} → T → token.Comma → T → Pair T
@@ -47,7 +48,7 @@ module _ {T : Type 0} (F : Fronting T) where
 
   -- what may follow the second may follow the pair
   abbrev pub fronting : Fronting (Pair T)
-  fronting = record { grammar = grammar; begins = Begins F; follows = F.follows }
+  fronting = record { grammar = grammar; begins = Begins F; follows = F.follows; plain = λ x k. F.plain x.first (row (p.mark x.comma) (printed_on F x.second k)) × F.plain x.second k }
 
   -- a comma may follow a value
   abbrev pub BeforeComma : Type 0
@@ -57,3 +58,4 @@ module _ {T : Type 0} (F : Fronting T) where
 abbrev pub KeepsPair : {T : Type 0} → Fronts T → Stream → Result (Pair T) Refusal → Stream → Type 0
 KeepsPair unsaid s r t = Unit {0}
 KeepsPair (said F) s r t = BeforeComma F → Fronted (fronting F) s r t
+KeepsPair (given P F) s r t = P → BeforeComma F → Fronted (fronting F) s r t

@@ -36,10 +36,10 @@ module _ {X : Type 0} (sub : Subtree X)
   lens : LengthLaws (values sub.reads).len (values_spelt sub.spells).len (normal_values_of sub.normal).len (values_of sub.prints).len
   lens = length_laws sub.reads sub.spells sub.normal sub.prints steady sound complete reprint
 
-  meets : GivenMeets (outer sub.reads) (values sub.reads) (outer_spelt sub.spells) (values_spelt sub.spells)
+  pub meets : GivenMeets (outer sub.reads) (values sub.reads) (outer_spelt sub.spells) (values_spelt sub.spells)
   meets = given_meets attrs consts lens
 
-  types : GivenAgain (normal.attrs sub.normal) (normal_values_of sub.normal) (printing.attrs sub.prints) (values_of sub.prints) (outer_spelt sub.spells) (values_spelt sub.spells)
+  pub types : GivenAgain (normal.attrs sub.normal) (normal_values_of sub.normal) (printing.attrs sub.prints) (values_of sub.prints) (outer_spelt sub.spells) (values_spelt sub.spells)
   types = given_again attrs consts lens (record { stays = refl; silent = refl })
 
   pub pat_lawful : (place : PatPlace) → Lawful (promises.pat sub place)

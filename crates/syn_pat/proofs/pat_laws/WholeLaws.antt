@@ -36,7 +36,7 @@ module _ {X : Type 0} (sub : Subtree X)
       let b = complete w (started none t) (sub.normal w (sub.normal w x)) (subst (λ z. sub.spells w (sub.normal w (sub.normal w x)) (row z done)) r.same q.again) in
       (same_pair (sub.normal w (sub.normal w x)) (sub.normal w x) b.0 a.0 (sym b.1 ∙ a.1)).0
 
-  supplied : SuppliedAgain sub.spells sub.normal sub.prints
+  pub supplied : SuppliedAgain sub.spells sub.normal sub.prints
   supplied = record { types = types; body = reprint Block; body_stays = supplied_stays Block; guard = reprint Guard; guard_stays = supplied_stays Guard }
 
   pub pat_lawful : (place : PatPlace) → Lawful (promises.pat sub place)

@@ -1,4 +1,4 @@
--- Which lists patterns spell: the relation tied, by the height of a pattern, and for each reader all of a list. No list here has an invisible group.
+-- Which lists patterns spell: the relation tied, by the height of a pattern, and for each reader the front and all of a list. No list here has an invisible group.
 use Rattle.std.specs.Prelude.{ℕ, zero, suc, []}
 use Rattle.token_core.specs.Spellings.{IsMark, IsWord}
 use Rattle.token_core.specs.Toks.{Toks, done}
@@ -8,7 +8,7 @@ use Rattle.syn_attr.specs.attr.Attrs.{Attribute as Attr}
 use Rattle.syn_attr.specs.declared.expr.Expr.{Expr}
 use Rattle.syn_attr.specs.declared.expr.Expr.TheVariants as e
 use Rattle.syn_forms.specs.declared.places.TypePlace.TheVariants.{Plus}
-use Rattle.syn_ty.specs.ty.Parts.{Manner, is_clear, End}
+use Rattle.syn_ty.specs.ty.Parts.{Manner, is_clear, End, Told}
 use Rattle.syn_ty.specs.ty.Spelling.{Relation}
 use Rattle.syn_ty.specs.ty.Trees.{TypeTree}
 use Rattle.syn_pat.specs.declared.pat.PatOf.TheVariants as v
@@ -25,11 +25,14 @@ module _ {X : Type 0} (spells : Place → X → Toks → Type 0) where
   pats_to zero how place x l r = ⊥
   pats_to (suc n) how place x l r = IsPat spells (pats_to n) how place x l r
 
-  -- ---- for each reader: all of a list
+  -- ---- for each reader: the front of a list up to a rest, and all of a list
 
   -- single, multi, with leading vert
+  abbrev pub BeginsPat : PatPlace → Manner → Relation (Pat X)
+  BeginsPat place how x l r = (n : ℕ) × IsPat spells (pats_to n) how place x l r
+
   abbrev pub SpellsPat : PatPlace → Manner → Pat X → Toks → Type 0
-  SpellsPat place how x l = (n : ℕ) × IsPat spells (pats_to n) how place x l done
+  SpellsPat place how x l = BeginsPat place how x l done
 
   module _ (how : Manner) where
     -- with leading vert, and perhaps `if` and a guard, which spells all that is left
@@ -42,3 +45,8 @@ module _ {X : Type 0} (spells : Place → X → Toks → Type 0) where
     pub data SpellsPatType : PatType X → Toks → Type 0 where
       a_pat_type : {x : Pat X} {c : token.Colon} {t : TypeTree (Attr X) (Expr X)} {l m j : Toks} →
           (n k : ℕ) → (f : End) → IsPat spells (pats_to n) how Single x l m → IsMark (is_clear how) c m j → (types_to spells k how).ty Plus f t j done → SpellsPatType (typed_of [] x c t) l
+
+    -- the same up to a rest, where the type ends so that this may follow
+    pub data BeginsPatType : Relation (PatType X) where
+      a_begun_type : {x : Pat X} {c : token.Colon} {t : TypeTree (Attr X) (Expr X)} {l m j r : Toks} →
+          BeginsPat Single how x l m → IsMark (is_clear how) c m j → (k : ℕ) → Told ((types_to spells k how).ty Plus) t j r → BeginsPatType (typed_of [] x c t) l r

@@ -15,6 +15,7 @@ ghost use Rattle.syn_pat.specs.pat.Fronts as fronts;
 ghost use Rattle.syn_pat.specs.pat.Knot as knot;
 ghost use Rattle.syn_pat.specs.pat.Promises as promises;
 ghost use Rattle.syn_pat.specs.pat.Reading.{named, type_names};
+ghost use Rattle.token_core.specs.Fronted.{Fronted, said};
 ghost use Rattle.token_core.specs.Headline.{Headline, Heads};
 ghost use Rattle.token_core.specs.Reads.{Fails, Follows, Gives, Parses, Reads};
 
@@ -47,7 +48,8 @@ impl<X: Subtree> Pat<X> {
     pub fn parse_single(alloc: Global, input: &mut ParseStream<'_>) -> Result<Pat<X>, Error>
         ensures parses { Parses (knot.pat X.reads (type_names X.reads) Single) result input.old input.new }
         ensures promise { Heads (promises.pat X.Subtree Single) input.old result input.new }
-        ensures front { Takes (fronts.pat X.spells Single) input.old result input.new }
+        ensures takes { Takes (fronts.pat X.spells Single) input.old result input.new }
+        ensures fronts { Fronted (promises.pat_front X.Subtree Single) input.old result input.new }
     {
         parse_in::<X, PathArguments<X>, QSelf<X>, Type<X>>(alloc, input, PatPlace::Single)
     }
@@ -62,7 +64,8 @@ impl<X: Subtree> Pat<X> {
     pub fn parse_multi(alloc: Global, input: &mut ParseStream<'_>) -> Result<Pat<X>, Error>
         ensures parses { Parses (knot.pat X.reads (type_names X.reads) Multi) result input.old input.new }
         ensures promise { Heads (promises.pat X.Subtree Multi) input.old result input.new }
-        ensures front { Takes (fronts.pat X.spells Multi) input.old result input.new }
+        ensures takes { Takes (fronts.pat X.spells Multi) input.old result input.new }
+        ensures fronts { Fronted (promises.pat_front X.Subtree Multi) input.old result input.new }
     {
         parse_in::<X, PathArguments<X>, QSelf<X>, Type<X>>(alloc, input, PatPlace::Multi)
     }
@@ -80,7 +83,8 @@ impl<X: Subtree> Pat<X> {
     ) -> Result<Pat<X>, Error>
         ensures parses { Parses (knot.pat X.reads (type_names X.reads) LeadingVert) result input.old input.new }
         ensures promise { Heads (promises.pat X.Subtree LeadingVert) input.old result input.new }
-        ensures front { Takes (fronts.pat X.spells LeadingVert) input.old result input.new }
+        ensures takes { Takes (fronts.pat X.spells LeadingVert) input.old result input.new }
+        ensures fronts { Fronted (promises.pat_front X.Subtree LeadingVert) input.old result input.new }
     {
         parse_in::<X, PathArguments<X>, QSelf<X>, Type<X>>(alloc, input, PatPlace::LeadingVert)
     }
@@ -170,11 +174,14 @@ impl<X: Subtree> Parse for PatType<X> {
 
     ghost promise = { Headline (promises.typed X.Subtree) };
 
+    ghost fronts = { said (promises.typed_front X.Subtree) };
+
     fn parse(alloc: Global, input: &mut ParseStream<'_>) -> Result<PatType<X>, Error>
         ensures reads { Reads (knot.typed X.reads input.old) result input.new }
         ensures within { Follows input.old input.new }
         ensures promise { Heads (promises.typed X.Subtree) input.old result input.new }
-        ensures front { Takes (fronts.typed X.spells) input.old result input.new }
+        ensures takes { Takes (fronts.typed X.spells) input.old result input.new }
+        ensures fronts { Fronted (promises.typed_front X.Subtree) input.old result input.new }
     {
         parse_typed::<X, PathArguments<X>, QSelf<X>, Type<X>>(alloc, input)
     }

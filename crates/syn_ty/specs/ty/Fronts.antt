@@ -1,5 +1,5 @@
 -- What each reader takes on the front of a list: a tree of some height, and where its form may end open, an end that fits what follows.
-use Rattle.std.specs.Prelude.{ℕ, Bool, false, List, Option}
+use Rattle.std.specs.Prelude.{Bool, false, List, Option}
 use Rattle.token_core.specs.Toks.{Toks}
 use Rattle.syn_path.specs.Values.{SpelledValues}
 use Rattle.syn_path.specs.declared.path.PathStyle.TheVariants.{AsWritten, Expr}
@@ -16,11 +16,11 @@ use Rattle.syn_ty.specs.ty.Admitted.{IsBorrow, IsBracketed, IsCounted, IsEnclose
 use Rattle.syn_ty.specs.ty.Functions.{IsFnPtr, IsNamedArg}
 use Rattle.syn_ty.specs.ty.Groups.{IsGrouped}
 use Rattle.syn_ty.specs.ty.Objects.{IsImpl, IsObject}
-use Rattle.syn_ty.specs.ty.Parts.{Manner, End, Parts, loosely, Told}
+use Rattle.syn_ty.specs.ty.Parts.{Manner, End, Parts, loosely}
 use Rattle.syn_ty.specs.ty.Spelling.{IsOptional, Relation}
 use Rattle.syn_ty.specs.ty.Trees.{AngleBracketed, BoundLifetimes, ConstParam, GenericArgument, GenericParam, NamedArg, Parenthesized, Path, PathSegment, QSelf, ReturnType, TraitBound, TypeArray, TypeFnPtr, TypeGroup, TypeImplTrait, TypeParam, TypeParamBound, TypeParen, TypePath, TypePtr, TypeReference, TypeSlice, TypeTraitObject, TypeTree, TypeTuple}
 use Rattle.syn_path.specs.declared.path.PathStyle.{PathStyle}
-use Rattle.syn_ty.specs.ty.Spelt.{spelt_to, Begins, IsPathAlone}
+use Rattle.syn_ty.specs.ty.Spelt.{Begins, BeginsFitting, IsPathAlone}
 
 module _ {A E : Type 0} (attrs : Bool → List A → Toks → Toks → Type 0) (values : SpelledValues E) where
   -- a form, over what stands within it; and one that may end open
@@ -35,7 +35,7 @@ module _ {A E : Type 0} (attrs : Bool → List A → Toks → Toks → Type 0) (
   Front Is = Begins attrs values Is loosely
 
   abbrev pub FrontEnding : {F : Type 0} → EndingForm F → Relation F
-  FrontEnding Is x l r = (n : ℕ) × Told (Is (spelt_to attrs values n) loosely) x l r
+  FrontEnding Is = BeginsFitting attrs values Is loosely
 
   -- a path that a type may qualify
   abbrev pub IsQualifiedOrNot : PathStyle → Form (Option (QSelf A E) × Path A E)

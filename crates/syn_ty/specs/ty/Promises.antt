@@ -1,19 +1,16 @@
 -- The promise of each reader of this layer: which lists its trees spell, their normal form, their print, which have clear verbatim parts, and the read.
-use Rattle.std.specs.Prelude.{Bool, true, false, ◌||◌, Option, option_map}
-use Rattle.token_core.specs.Fronted.{Fronting}
+use Rattle.std.specs.Prelude.{Bool, true, false, Option, option_map}
 use Rattle.token_core.specs.Headline.{Grammar}
 use Rattle.token_core.specs.Prints as p
 use Rattle.token_core.specs.Prints.{Print}
-use Rattle.token_core.specs.Reads.{Reader, is_done}
+use Rattle.token_core.specs.Reads.{Reader}
 use Rattle.token_core.specs.Rebuilt.{Visible}
-use Rattle.token_core.specs.Tokens as token
 use Rattle.token_core.specs.Toks.{Toks}
 use Rattle.syn_path.specs.declared.path.PathStyle.TheVariants.{AsWritten}
 use Rattle.syn_path.specs.Traits.{Attributes, Expressions}
 use Rattle.syn_forms.specs.declared.places.BoundPlace.TheVariants.{Opaque}
 use Rattle.syn_forms.specs.declared.places.ParamPlace.TheVariants.{Binder}
 use Rattle.syn_forms.specs.declared.places.TypePlace.{TypePlace}
-use Rattle.syn_forms.specs.declared.places.TypePlace.TheVariants.{Plus}
 use Rattle.syn_forms.specs.places.Reading.{allows_plus}
 use Rattle.syn_ty.specs.declared.generics.CapturedParam.{CapturedParam}
 use Rattle.syn_ty.specs.declared.generics.LifetimeParamOf.{LifetimeParamOf}
@@ -42,14 +39,6 @@ manner true = clearly
 abbrev pub promise : {F : Type 0} → (Manner → F → Toks → Type 0) → (F → F) → (F → Print) → Reader F → Grammar F
 promise Is form print reader = record { spells = λ clear x l. Is (manner clear) x l; normal = form; print = print; plain = λ x. (l : Toks) × Visible l × Is plainly x l; reader = reader }
 
--- On the front of a list: which lists its trees spell up to what follows, and what may follow.
-abbrev pub fronting : {F : Type 0} → Grammar F → (Manner → Relation F) → (Toks → Bool) → Fronting F
-fronting G Is follows = record { grammar = G; begins = λ clear x l k. Is (manner clear) x l k; follows = follows }
-
--- what may follow a type there: nothing, or a comma
-abbrev pub follows_type : Toks → Bool
-follows_type k = is_done k || token.sees_comma k
-
 -- ---- over attributes and expressions
 
 module _ {A E : Type 0} (attrs : Attributes A) (exprs : Expressions E) where
@@ -77,10 +66,6 @@ module _ {A E : Type 0} (attrs : Attributes A) (exprs : Expressions E) where
 
   abbrev pub ty : TypePlace → Grammar (TypeTree A E)
   ty place = promise (spelt.SpellsType attrs.spells exprs.spells place) (normal.ty attrs.normal exprs.normal) (shown.ty attrs.shown exprs.values) (knot.ty attrs.reads exprs.reads place)
-
-  -- with plus, on the front of a list
-  abbrev pub ty_front : Fronting (TypeTree A E)
-  ty_front = fronting (ty Plus) (spelt.BeginsType attrs.spells exprs.spells Plus) follows_type
 
   abbrev pub return_type : TypePlace → Grammar (ReturnType A E)
   return_type place = promise (spelt.SpellsReturn attrs.spells exprs.spells place) (normal.return_type attrs.normal exprs.normal) (shown.return_type attrs.shown exprs.values) (knot.return_type attrs.reads exprs.reads place)

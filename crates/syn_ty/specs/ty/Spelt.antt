@@ -19,7 +19,7 @@ use Rattle.syn_ty.specs.path.Spelling.{IsAngle, IsAnyPath, IsArguments, IsPath, 
 use Rattle.syn_ty.specs.ty.Admitted.{IsBorrow, IsBracketed, IsCounted, IsEnclosed, IsPointer, IsTupled, IsType}
 use Rattle.syn_ty.specs.ty.Functions.{IsAbi, IsFnPtr, IsNamedArg}
 use Rattle.syn_ty.specs.ty.Objects.{IsImpl, IsObject}
-use Rattle.syn_ty.specs.ty.Parts.{Manner, is_clear, End, Parts}
+use Rattle.syn_ty.specs.ty.Parts.{Manner, is_clear, End, Parts, Told}
 use Rattle.syn_ty.specs.ty.Spelling.{IsOptional, Relation}
 use Rattle.syn_ty.specs.ty.Trees.{AngleBracketed, BoundLifetimes, ConstParam, GenericArgument, GenericParam, NamedArg, Parenthesized, Path, PathSegment, QSelf, ReturnType, TraitBound, TypeArray, TypeFnPtr, TypeGroup, TypeImplTrait, TypeParam, TypeParamBound, TypeParen, TypePath, TypePtr, TypeReference, TypeSlice, TypeTraitObject, TypeTree, TypeTuple}
 use Rattle.syn_ty.specs.ty.Types.{qualified_with}
@@ -69,6 +69,10 @@ module _ {A E : Type 0} (attrs : Bool → List A → Toks → Toks → Type 0) (
   abbrev pub BeginsEnding : {F : Type 0} → ((Manner → Parts A E) → Manner → End → Relation F) → Manner → Relation F
   BeginsEnding Is how x l r = (n : ℕ) × (e : End) × Is (spelt_to n) how e x l r
 
+  -- with an end that fits what follows
+  abbrev pub BeginsFitting : {F : Type 0} → ((Manner → Parts A E) → Manner → End → Relation F) → Manner → Relation F
+  BeginsFitting Is how x l r = (n : ℕ) × Told (Is (spelt_to n) how) x l r
+
   -- all of a list
   abbrev pub Spells : {F : Type 0} → ((Manner → Parts A E) → Manner → Relation F) → Manner → F → Toks → Type 0
   Spells Is how x l = Begins Is how x l done
@@ -101,9 +105,6 @@ module _ {A E : Type 0} (attrs : Bool → List A → Toks → Toks → Type 0) (
 
   abbrev pub SpellsType : TypePlace → Manner → TypeTree A E → Toks → Type 0
   SpellsType place = SpellsEnding (λ part how. IsType part how place)
-
-  abbrev pub BeginsType : TypePlace → Manner → Relation (TypeTree A E)
-  BeginsType place = BeginsEnding (λ part how. IsType part how place)
 
   abbrev pub SpellsReturn : TypePlace → Manner → ReturnType A E → Toks → Type 0
   SpellsReturn place = SpellsEnding (λ part how. IsReturn part how place)

@@ -3,6 +3,7 @@
 ghost use Rattle.syn_path.specs.Took.{Takes};
 ghost use Rattle.syn_ty.specs.ty.Fronts as fronts;
 ghost use Rattle.syn_ty.specs.ty.Parts.{loosely};
+ghost use Rattle.syn_ty.specs.ty.Frontings as frontings;
 ghost use Rattle.syn_ty.specs.ty.Promises as promises;
 ghost use Rattle.syn_ty.specs.ty.Spelt as spelt;
 ghost use Rattle.syn_ty.specs.generics.Bounds.{IsCaptured, IsCapture};
@@ -16,6 +17,7 @@ ghost use Rattle.syn_forms.specs.tokens.Choices.{none_of, a_comma, a_const, a_gt
 ghost use Rattle.syn_ty.specs.generics.Params as parts;
 ghost use Rattle.syn_ty.specs.generics.Reading as reading;
 ghost use Rattle.syn_ty.specs.ty.Knot as knot;
+ghost use Rattle.token_core.specs.Fronted.{Fronted, said};
 ghost use Rattle.token_core.specs.Headline.{Heads, Headline};
 ghost use Rattle.token_core.specs.Looks.{unmet};
 ghost use Rattle.token_core.specs.Reads.{Fails, Follows, Gives, Parses, Reads, forked, pure};
@@ -57,7 +59,7 @@ use token_core::{
 fn sees_captured_ident(input: &ParseStream<'_>) -> bool
     ensures { result ≡ reading.sees_captured_ident input.now.rest }
 {
-    input.peek::<Ident>() | input.peek::<SelfType>()
+    input.peek::<Ident>() || input.peek::<SelfType>()
 }
 
 /// The refusal where no parameter follows that can be captured; in a list the `>` is looked for too.
@@ -1118,11 +1120,14 @@ impl Parse for CapturedParam {
 
     ghost promise = { Headline promises.captured };
 
+    ghost fronts = { said frontings.captured };
+
     fn parse(alloc: Global, input: &mut ParseStream<'_>) -> Result<CapturedParam, Error>
         ensures reads { Reads (reading.captured input.old) result input.new }
         ensures within { Follows input.old input.new }
         ensures promise { Heads promises.captured input.old result input.new }
-        ensures front { Takes IsCaptured input.old result input.new }
+        ensures fronts { Fronted frontings.captured input.old result input.new }
+        ensures takes { Takes IsCaptured input.old result input.new }
     {
         parse_captured(alloc, input)
     }
@@ -1143,11 +1148,14 @@ impl Parse for PreciseCapture {
 
     ghost promise = { Headline promises.capture };
 
+    ghost fronts = { said frontings.capture };
+
     fn parse(alloc: Global, input: &mut ParseStream<'_>) -> Result<PreciseCapture, Error>
         ensures reads { Reads (reading.capture input.old) result input.new }
         ensures within { Follows input.old input.new }
         ensures promise { Heads promises.capture input.old result input.new }
-        ensures front { Takes (IsCapture false) input.old result input.new }
+        ensures fronts { Fronted frontings.capture input.old result input.new }
+        ensures takes { Takes (IsCapture false) input.old result input.new }
     {
         parse_capture(alloc, input)
     }
@@ -1167,6 +1175,8 @@ impl<A: Attributes, E: Value> Parse for BoundLifetimesOf<GenericParamOf<A, E>> {
 
     ghost promise = { Headline (promises.binder A.Attributes E.Value) };
 
+    ghost fronts = { said (frontings.binder A.Attributes E.Value) };
+
     fn parse(
         alloc: Global,
         input: &mut ParseStream<'_>,
@@ -1174,7 +1184,8 @@ impl<A: Attributes, E: Value> Parse for BoundLifetimesOf<GenericParamOf<A, E>> {
         ensures reads { Reads (knot.binder A.reads E.reads input.old) result input.new }
         ensures within { Follows input.old input.new }
         ensures promise { Heads (promises.binder A.Attributes E.Value) input.old result input.new }
-        ensures front { Takes (fronts.binder A.spells E.spells) input.old result input.new }
+        ensures fronts { Fronted (frontings.binder A.Attributes E.Value) input.old result input.new }
+        ensures takes { Takes (fronts.binder A.spells E.spells) input.old result input.new }
     {
         parse_binder(alloc, input)
     }
@@ -1189,7 +1200,8 @@ impl<A: Attributes, E: Value> BoundLifetimesOf<GenericParamOf<A, E>> {
     ) -> Result<Option<BoundLifetimesOf<GenericParamOf<A, E>>>, Error>
         ensures parses { Parses (knot.optional_binder A.reads E.reads) result input.old input.new }
         ensures promise { Heads (promises.optional_binder A.Attributes E.Value) input.old result input.new }
-        ensures front { Takes (fronts.optional_binder A.spells E.spells) input.old result input.new }
+        ensures fronts { Fronted (frontings.optional_binder A.Attributes E.Value) input.old result input.new }
+        ensures takes { Takes (fronts.optional_binder A.spells E.spells) input.old result input.new }
     {
         parse_optional_binder(alloc, input)
     }
@@ -1212,11 +1224,14 @@ impl<A: Attributes, E: Value> Parse for TypeParamBoundOf<A, E> {
 
     ghost promise = { Headline (promises.bound A.Attributes E.Value) };
 
+    ghost fronts = { said (frontings.bound A.Attributes E.Value) };
+
     fn parse(alloc: Global, input: &mut ParseStream<'_>) -> Result<TypeParamBoundOf<A, E>, Error>
         ensures reads { Reads (knot.bound A.reads E.reads bound_places.Opaque input.old) result input.new }
         ensures within { Follows input.old input.new }
         ensures promise { Heads (promises.bound A.Attributes E.Value) input.old result input.new }
-        ensures front { Takes (fronts.bound A.spells E.spells) input.old result input.new }
+        ensures fronts { Fronted (frontings.bound A.Attributes E.Value) input.old result input.new }
+        ensures takes { Takes (fronts.bound A.spells E.spells) input.old result input.new }
     {
         parse_bound(alloc, input, BoundPlace::Opaque)
     }
@@ -1237,11 +1252,14 @@ impl<A: Attributes, E: Value> Parse for TraitBoundOf<A, E> {
 
     ghost promise = { Headline (promises.trait_bound A.Attributes E.Value) };
 
+    ghost fronts = { said (frontings.trait_bound A.Attributes E.Value) };
+
     fn parse(alloc: Global, input: &mut ParseStream<'_>) -> Result<TraitBoundOf<A, E>, Error>
         ensures reads { Reads (knot.trait_bound A.reads E.reads input.old) result input.new }
         ensures within { Follows input.old input.new }
         ensures promise { Heads (promises.trait_bound A.Attributes E.Value) input.old result input.new }
-        ensures front { Takes (fronts.trait_bound A.spells E.spells) input.old result input.new }
+        ensures fronts { Fronted (frontings.trait_bound A.Attributes E.Value) input.old result input.new }
+        ensures takes { Takes (fronts.trait_bound A.spells E.spells) input.old result input.new }
     {
         parse_trait_bound(alloc, input)
     }
@@ -1262,11 +1280,14 @@ impl<A: Attributes, E: Value> Parse for GenericParamOf<A, E> {
 
     ghost promise = { Headline (promises.param A.Attributes E.Value) };
 
+    ghost fronts = { said (frontings.param A.Attributes E.Value) };
+
     fn parse(alloc: Global, input: &mut ParseStream<'_>) -> Result<GenericParamOf<A, E>, Error>
         ensures reads { Reads (knot.param A.reads E.reads param_places.Binder input.old) result input.new }
         ensures within { Follows input.old input.new }
         ensures promise { Heads (promises.param A.Attributes E.Value) input.old result input.new }
-        ensures front { Takes (fronts.param A.spells E.spells) input.old result input.new }
+        ensures fronts { Fronted (frontings.param A.Attributes E.Value) input.old result input.new }
+        ensures takes { Takes (fronts.param A.spells E.spells) input.old result input.new }
     {
         parse_param(alloc, input, ParamPlace::Binder)
     }
@@ -1286,11 +1307,14 @@ impl<A: Attributes> Parse for LifetimeParamOf<A> {
 
     ghost promise = { Headline (promises.lifetime_param A.Attributes) };
 
+    ghost fronts = { said (frontings.lifetime_param A.Attributes) };
+
     fn parse(alloc: Global, input: &mut ParseStream<'_>) -> Result<LifetimeParamOf<A>, Error>
         ensures reads { Reads (reading.lifetime_param A.reads input.old) result input.new }
         ensures within { Follows input.old input.new }
         ensures promise { Heads (promises.lifetime_param A.Attributes) input.old result input.new }
-        ensures front { Takes (spelt.IsLifetimeAlone A.spells loosely) input.old result input.new }
+        ensures fronts { Fronted (frontings.lifetime_param A.Attributes) input.old result input.new }
+        ensures takes { Takes (spelt.IsLifetimeAlone A.spells loosely) input.old result input.new }
     {
         lifetime_param(alloc, input)
     }
@@ -1310,11 +1334,14 @@ impl<A: Attributes, E: Value> Parse for TypeParamOf<A, E> {
 
     ghost promise = { Headline (promises.type_param A.Attributes E.Value) };
 
+    ghost fronts = { said (frontings.type_param A.Attributes E.Value) };
+
     fn parse(alloc: Global, input: &mut ParseStream<'_>) -> Result<TypeParamOf<A, E>, Error>
         ensures reads { Reads (knot.type_param A.reads E.reads input.old) result input.new }
         ensures within { Follows input.old input.new }
         ensures promise { Heads (promises.type_param A.Attributes E.Value) input.old result input.new }
-        ensures front { Takes (fronts.type_param A.spells E.spells) input.old result input.new }
+        ensures fronts { Fronted (frontings.type_param A.Attributes E.Value) input.old result input.new }
+        ensures takes { Takes (fronts.type_param A.spells E.spells) input.old result input.new }
     {
         parse_type_param(alloc, input)
     }
@@ -1334,6 +1361,8 @@ impl<A: Attributes, E: Value> Parse for ConstParamOf<TypeOf<A, E>, A, E> {
 
     ghost promise = { Headline (promises.const_param A.Attributes E.Value) };
 
+    ghost fronts = { said (frontings.const_param A.Attributes E.Value) };
+
     fn parse(
         alloc: Global,
         input: &mut ParseStream<'_>,
@@ -1341,7 +1370,8 @@ impl<A: Attributes, E: Value> Parse for ConstParamOf<TypeOf<A, E>, A, E> {
         ensures reads { Reads (knot.const_param A.reads E.reads input.old) result input.new }
         ensures within { Follows input.old input.new }
         ensures promise { Heads (promises.const_param A.Attributes E.Value) input.old result input.new }
-        ensures front { Takes (fronts.const_param A.spells E.spells) input.old result input.new }
+        ensures fronts { Fronted (frontings.const_param A.Attributes E.Value) input.old result input.new }
+        ensures takes { Takes (fronts.const_param A.spells E.spells) input.old result input.new }
     {
         parse_const_param(alloc, input)
     }

@@ -2,6 +2,7 @@
 
 ghost use Rattle.syn_path.specs.Took.{Takes};
 ghost use Rattle.syn_ty.specs.ty.Fronts as fronts;
+ghost use Rattle.syn_ty.specs.ty.Frontings as frontings;
 ghost use Rattle.syn_ty.specs.ty.Promises as promises;
 ghost use Rattle.std.specs.Prelude.{◌≡◌, ◌<◌, ◌≤◌, length, [], None, is_some};
 ghost use Rattle.syn_forms.specs.declared.places.BoundPlace.TheVariants as bound_places;
@@ -19,6 +20,7 @@ ghost use Rattle.syn_ty.specs.ty.Knot as knot;
 ghost use Rattle.syn_ty.specs.ty.Points.{a_bound};
 ghost use Rattle.syn_ty.specs.ty.Reading as types;
 ghost use Rattle.syn_ty.specs.ty.Types as parts;
+ghost use Rattle.token_core.specs.Fronted.{Fronted, said};
 ghost use Rattle.token_core.specs.Headline.{Heads, Headline};
 ghost use Rattle.token_core.specs.Reads.{Fails, Follows, Gives, Parses, Reads, and_then, optional, pure};
 ghost use Rattle.token_core.specs.Tokens as token;
@@ -52,7 +54,7 @@ use token_core::{
 fn peek_const(input: &ParseStream<'_>) -> bool
     ensures { result ≡ reading.sees_const input.now.rest }
 {
-    input.peek::<Lit>() | input.peek::<Brace>()
+    input.peek::<Lit>() || input.peek::<Brace>()
 }
 
 /// Whether a lifetime is at the front that no `+` follows: with one it begins a trait object.
@@ -60,7 +62,7 @@ fn peek_const(input: &ParseStream<'_>) -> bool
 fn peek_lone_lifetime(input: &ParseStream<'_>) -> bool
     ensures { result ≡ reading.sees_lone_lifetime input.now.rest }
 {
-    input.peek::<Lifetime>() & !input.peek2::<Plus>()
+    input.peek::<Lifetime>() && !input.peek2::<Plus>()
 }
 
 /// Whether parentheses are at the front, or `::` and parentheses.
@@ -68,7 +70,7 @@ fn peek_lone_lifetime(input: &ParseStream<'_>) -> bool
 fn peek_signature(input: &ParseStream<'_>) -> bool
     ensures { result ≡ reading.sees_signature input.now.rest }
 {
-    input.peek::<Paren>() | (input.peek::<PathSep>() & input.peek3::<Paren>())
+    input.peek::<Paren>() || (input.peek::<PathSep>() && input.peek3::<Paren>())
 }
 
 /// The bounds of an associated type: they end before `,` and `>`, and a `+` may stand there.
@@ -84,7 +86,7 @@ impl End<Plus> for ToConstraintEnd {
 
     #[tactic(auto, unfolding(crate::specs::path::Reading::ends_constraint))]
     fn is_over(self, input: &ParseStream<'_>, first: bool) -> bool {
-        input.peek::<Comma>() | input.peek::<Gt>()
+        input.peek::<Comma>() || input.peek::<Gt>()
     }
 
     fn goes_on(self, input: &ParseStream<'_>) -> bool {
@@ -1041,6 +1043,10 @@ impl<A: Attributes, E: Value> ReadArguments for PathArgumentsOf<A, E> {
 
     ghost promise_segment = { Headline (promises.segment A.Attributes E.Value) };
 
+    ghost fronts_path = { said (frontings.path A.Attributes E.Value) };
+
+    ghost fronts_segment = { said (frontings.segment A.Attributes E.Value) };
+
     ghost spells_path = { fronts.path A.spells E.spells };
 
     ghost spells_segment = { fronts.segment A.spells E.spells };
@@ -1051,7 +1057,8 @@ impl<A: Attributes, E: Value> ReadArguments for PathArgumentsOf<A, E> {
     ) -> Result<PathOf<PathArgumentsOf<A, E>>, Error>
         ensures parses { Parses (knot.path A.reads E.reads styles.AsWritten) result input.old input.new }
         ensures promise { Heads (promises.path A.Attributes E.Value) input.old result input.new }
-        ensures front { Takes (fronts.path A.spells E.spells) input.old result input.new }
+        ensures fronts { Fronted (frontings.path A.Attributes E.Value) input.old result input.new }
+        ensures takes { Takes (fronts.path A.spells E.spells) input.old result input.new }
     {
         parse_path::<A, E>(alloc, input, PathStyle::AsWritten)
     }
@@ -1062,7 +1069,8 @@ impl<A: Attributes, E: Value> ReadArguments for PathArgumentsOf<A, E> {
     ) -> Result<PathSegmentOf<PathArgumentsOf<A, E>>, Error>
         ensures parses { Parses (knot.segment A.reads E.reads) result input.old input.new }
         ensures promise { Heads (promises.segment A.Attributes E.Value) input.old result input.new }
-        ensures front { Takes (fronts.segment A.spells E.spells) input.old result input.new }
+        ensures fronts { Fronted (frontings.segment A.Attributes E.Value) input.old result input.new }
+        ensures takes { Takes (fronts.segment A.spells E.spells) input.old result input.new }
     {
         parse_segment::<A, E>(alloc, input)
     }
@@ -1085,11 +1093,14 @@ impl<A: Attributes, E: Value> Parse for GenericArgumentOf<A, E> {
 
     ghost promise = { Headline (promises.argument A.Attributes E.Value) };
 
+    ghost fronts = { said (frontings.argument A.Attributes E.Value) };
+
     fn parse(alloc: Global, input: &mut ParseStream<'_>) -> Result<GenericArgumentOf<A, E>, Error>
         ensures reads { Reads (knot.argument A.reads E.reads input.old) result input.new }
         ensures within { Follows input.old input.new }
         ensures promise { Heads (promises.argument A.Attributes E.Value) input.old result input.new }
-        ensures front { Takes (fronts.argument A.spells E.spells) input.old result input.new }
+        ensures fronts { Fronted (frontings.argument A.Attributes E.Value) input.old result input.new }
+        ensures takes { Takes (fronts.argument A.spells E.spells) input.old result input.new }
     {
         parse_argument::<A, E>(alloc, input)
     }
@@ -1110,6 +1121,8 @@ impl<A: Attributes, E: Value> Parse for AngleBracketedGenericArgumentsOf<Generic
 
     ghost promise = { Headline (promises.angle A.Attributes E.Value) };
 
+    ghost fronts = { said (frontings.angle A.Attributes E.Value) };
+
     fn parse(
         alloc: Global,
         input: &mut ParseStream<'_>,
@@ -1117,7 +1130,8 @@ impl<A: Attributes, E: Value> Parse for AngleBracketedGenericArgumentsOf<Generic
         ensures reads { Reads (knot.angle_bracketed A.reads E.reads input.old) result input.new }
         ensures within { Follows input.old input.new }
         ensures promise { Heads (promises.angle A.Attributes E.Value) input.old result input.new }
-        ensures front { Takes (fronts.angle A.spells E.spells) input.old result input.new }
+        ensures fronts { Fronted (frontings.angle A.Attributes E.Value) input.old result input.new }
+        ensures takes { Takes (fronts.angle A.spells E.spells) input.old result input.new }
     {
         parse_angle_bracketed::<A, E>(alloc, input)
     }
@@ -1138,7 +1152,8 @@ impl<A: Attributes, E: Value> AngleBracketedGenericArgumentsOf<GenericArgumentOf
     ) -> Result<AngleBracketedGenericArgumentsOf<GenericArgumentOf<A, E>>, Error>
         ensures parses { Parses (knot.turbofish A.reads E.reads) result input.old input.new }
         ensures promise { Heads (promises.turbofish A.Attributes E.Value) input.old result input.new }
-        ensures front { Takes (fronts.turbofish A.spells E.spells) input.old result input.new }
+        ensures fronts { Fronted (frontings.turbofish A.Attributes E.Value) input.old result input.new }
+        ensures takes { Takes (fronts.turbofish A.spells E.spells) input.old result input.new }
     {
         parse_turbofish::<A, E>(alloc, input)
     }
@@ -1159,6 +1174,8 @@ impl<A: Attributes, E: Value> Parse for ParenthesizedGenericArgumentsOf<TypeOf<A
 
     ghost promise = { Headline (promises.parenthesized A.Attributes E.Value) };
 
+    ghost fronts = { said (frontings.parenthesized A.Attributes E.Value) };
+
     fn parse(
         alloc: Global,
         input: &mut ParseStream<'_>,
@@ -1166,7 +1183,8 @@ impl<A: Attributes, E: Value> Parse for ParenthesizedGenericArgumentsOf<TypeOf<A
         ensures reads { Reads (knot.parenthesized A.reads E.reads input.old) result input.new }
         ensures within { Follows input.old input.new }
         ensures promise { Heads (promises.parenthesized A.Attributes E.Value) input.old result input.new }
-        ensures front { Takes (fronts.parenthesized A.spells E.spells) input.old result input.new }
+        ensures fronts { Fronted (frontings.parenthesized A.Attributes E.Value) input.old result input.new }
+        ensures takes { Takes (fronts.parenthesized A.spells E.spells) input.old result input.new }
     {
         parse_parenthesized::<A, E>(alloc, input)
     }

@@ -11,6 +11,7 @@ pub mod tokens;
 
 ghost use Rattle.syn_path.specs.Took.{Takes};
 ghost use Rattle.syn_ty.specs.ty.Fronts as fronts;
+ghost use Rattle.syn_ty.specs.ty.Frontings as frontings;
 ghost use Rattle.syn_ty.specs.ty.Promises as promises;
 ghost use Rattle.syn_ty.specs.ty.Functions.{IsAbi};
 ghost use Rattle.std.specs.Prelude.{◌≡◌, false, true, IfOk};
@@ -53,7 +54,8 @@ impl<A: Attributes, E: Value> TypeOf<A, E> {
     pub fn without_plus(alloc: Global, input: &mut ParseStream<'_>) -> Result<TypeOf<A, E>, Error>
         ensures parses { Parses (knot.ty A.reads E.reads NoPlus) result input.old input.new }
         ensures promise { Heads (promises.ty A.Attributes E.Value NoPlus) input.old result input.new }
-        ensures front { Takes (fronts.ty A.spells E.spells NoPlus) input.old result input.new }
+        ensures fronts { Fronted (frontings.ty A.Attributes E.Value NoPlus) input.old result input.new }
+        ensures takes { Takes (fronts.ty A.spells E.spells NoPlus) input.old result input.new }
         ensures group { TakesGroup (fronts.grouped A.spells E.spells) input.old result input.new }
         ensures cases { sees_invisible input.old.rest ≡ true → IfOk result
             (λ x. IsReadGrouped (knot.reads_below A.reads E.reads (ahead input.old)) input.old x input.new) }
@@ -73,15 +75,15 @@ impl<A: Attributes, E: Value> Parse for TypeOf<A, E> {
 
     ghost promise = { Headline (promises.ty A.Attributes E.Value Plus) };
 
-    ghost fronts = { said (promises.ty_front A.Attributes E.Value) };
+    ghost fronts = { said (frontings.ty A.Attributes E.Value Plus) };
 
     #[tactic(auto, using(crate::proofs::ty_laws::Groups::groups))]
     fn parse(alloc: Global, input: &mut ParseStream<'_>) -> Result<TypeOf<A, E>, Error>
         ensures reads { Reads (knot.ty A.reads E.reads Plus input.old) result input.new }
         ensures within { Follows input.old input.new }
         ensures promise { Heads (promises.ty A.Attributes E.Value Plus) input.old result input.new }
-        ensures front { Takes (fronts.ty A.spells E.spells Plus) input.old result input.new }
-        ensures fronts { Fronted (promises.ty_front A.Attributes E.Value) input.old result input.new }
+        ensures fronts { Fronted (frontings.ty A.Attributes E.Value Plus) input.old result input.new }
+        ensures takes { Takes (fronts.ty A.spells E.spells Plus) input.old result input.new }
         ensures group { TakesGroup (fronts.grouped A.spells E.spells) input.old result input.new }
         ensures cases { sees_invisible input.old.rest ≡ true → IfOk result
             (λ x. IsReadGrouped (knot.reads_below A.reads E.reads (ahead input.old)) input.old x input.new) }
@@ -98,7 +100,8 @@ impl<A: Attributes, E: Value> ReturnTypeOf<TypeOf<A, E>> {
     ) -> Result<ReturnTypeOf<TypeOf<A, E>>, Error>
         ensures parses { Parses (knot.return_type A.reads E.reads NoPlus) result input.old input.new }
         ensures promise { Heads (promises.return_type A.Attributes E.Value NoPlus) input.old result input.new }
-        ensures front { Takes (fronts.return_type A.spells E.spells NoPlus) input.old result input.new }
+        ensures fronts { Fronted (frontings.return_type A.Attributes E.Value NoPlus) input.old result input.new }
+        ensures takes { Takes (fronts.return_type A.spells E.spells NoPlus) input.old result input.new }
     {
         parse_return_type(alloc, input, TypePlace::NoPlus)
     }
@@ -112,6 +115,8 @@ impl<A: Attributes, E: Value> Parse for ReturnTypeOf<TypeOf<A, E>> {
 
     ghost promise = { Headline (promises.return_type A.Attributes E.Value Plus) };
 
+    ghost fronts = { said (frontings.return_type A.Attributes E.Value Plus) };
+
     fn parse(
         alloc: Global,
         input: &mut ParseStream<'_>,
@@ -119,7 +124,8 @@ impl<A: Attributes, E: Value> Parse for ReturnTypeOf<TypeOf<A, E>> {
         ensures reads { Reads (knot.return_type A.reads E.reads Plus input.old) result input.new }
         ensures within { Follows input.old input.new }
         ensures promise { Heads (promises.return_type A.Attributes E.Value Plus) input.old result input.new }
-        ensures front { Takes (fronts.return_type A.spells E.spells Plus) input.old result input.new }
+        ensures fronts { Fronted (frontings.return_type A.Attributes E.Value Plus) input.old result input.new }
+        ensures takes { Takes (fronts.return_type A.spells E.spells Plus) input.old result input.new }
     {
         parse_return_type(alloc, input, TypePlace::Plus)
     }
@@ -133,7 +139,8 @@ impl<A: Attributes, E: Value> TypeTraitObjectOf<TypeParamBoundOf<A, E>, A> {
     ) -> Result<TypeTraitObjectOf<TypeParamBoundOf<A, E>, A>, Error>
         ensures parses { Parses (knot.trait_object A.reads E.reads false) result input.old input.new }
         ensures promise { Heads (promises.trait_object A.Attributes E.Value NoPlus) input.old result input.new }
-        ensures front { Takes (fronts.trait_object A.spells E.spells NoPlus) input.old result input.new }
+        ensures fronts { Fronted (frontings.trait_object A.Attributes E.Value NoPlus) input.old result input.new }
+        ensures takes { Takes (fronts.trait_object A.spells E.spells NoPlus) input.old result input.new }
     {
         parse_trait_object(alloc, input, false)
     }
@@ -147,6 +154,8 @@ impl<A: Attributes, E: Value> Parse for TypeTraitObjectOf<TypeParamBoundOf<A, E>
 
     ghost promise = { Headline (promises.trait_object A.Attributes E.Value Plus) };
 
+    ghost fronts = { said (frontings.trait_object A.Attributes E.Value Plus) };
+
     fn parse(
         alloc: Global,
         input: &mut ParseStream<'_>,
@@ -154,7 +163,8 @@ impl<A: Attributes, E: Value> Parse for TypeTraitObjectOf<TypeParamBoundOf<A, E>
         ensures reads { Reads (knot.trait_object A.reads E.reads true input.old) result input.new }
         ensures within { Follows input.old input.new }
         ensures promise { Heads (promises.trait_object A.Attributes E.Value Plus) input.old result input.new }
-        ensures front { Takes (fronts.trait_object A.spells E.spells Plus) input.old result input.new }
+        ensures fronts { Fronted (frontings.trait_object A.Attributes E.Value Plus) input.old result input.new }
+        ensures takes { Takes (fronts.trait_object A.spells E.spells Plus) input.old result input.new }
     {
         parse_trait_object(alloc, input, true)
     }
@@ -168,7 +178,8 @@ impl<A: Attributes, E: Value> TypeImplTraitOf<TypeParamBoundOf<A, E>, A> {
     ) -> Result<TypeImplTraitOf<TypeParamBoundOf<A, E>, A>, Error>
         ensures parses { Parses (knot.impl_trait A.reads E.reads false) result input.old input.new }
         ensures promise { Heads (promises.impl_trait A.Attributes E.Value NoPlus) input.old result input.new }
-        ensures front { Takes (fronts.impl_trait A.spells E.spells NoPlus) input.old result input.new }
+        ensures fronts { Fronted (frontings.impl_trait A.Attributes E.Value NoPlus) input.old result input.new }
+        ensures takes { Takes (fronts.impl_trait A.spells E.spells NoPlus) input.old result input.new }
     {
         parse_impl_trait(alloc, input, false)
     }
@@ -182,6 +193,8 @@ impl<A: Attributes, E: Value> Parse for TypeImplTraitOf<TypeParamBoundOf<A, E>, 
 
     ghost promise = { Headline (promises.impl_trait A.Attributes E.Value Plus) };
 
+    ghost fronts = { said (frontings.impl_trait A.Attributes E.Value Plus) };
+
     fn parse(
         alloc: Global,
         input: &mut ParseStream<'_>,
@@ -189,7 +202,8 @@ impl<A: Attributes, E: Value> Parse for TypeImplTraitOf<TypeParamBoundOf<A, E>, 
         ensures reads { Reads (knot.impl_trait A.reads E.reads true input.old) result input.new }
         ensures within { Follows input.old input.new }
         ensures promise { Heads (promises.impl_trait A.Attributes E.Value Plus) input.old result input.new }
-        ensures front { Takes (fronts.impl_trait A.spells E.spells Plus) input.old result input.new }
+        ensures fronts { Fronted (frontings.impl_trait A.Attributes E.Value Plus) input.old result input.new }
+        ensures takes { Takes (fronts.impl_trait A.spells E.spells Plus) input.old result input.new }
     {
         parse_impl_trait(alloc, input, true)
     }
@@ -203,6 +217,8 @@ impl<A: Attributes, E: Value> Parse for TypeArrayOf<TypeOf<A, E>, A, E> {
 
     ghost promise = { Headline (promises.array A.Attributes E.Value) };
 
+    ghost fronts = { said (frontings.array A.Attributes E.Value) };
+
     fn parse(
         alloc: Global,
         input: &mut ParseStream<'_>,
@@ -210,7 +226,8 @@ impl<A: Attributes, E: Value> Parse for TypeArrayOf<TypeOf<A, E>, A, E> {
         ensures reads { Reads (knot.array A.reads E.reads input.old) result input.new }
         ensures within { Follows input.old input.new }
         ensures promise { Heads (promises.array A.Attributes E.Value) input.old result input.new }
-        ensures front { Takes (fronts.array A.spells E.spells) input.old result input.new }
+        ensures fronts { Fronted (frontings.array A.Attributes E.Value) input.old result input.new }
+        ensures takes { Takes (fronts.array A.spells E.spells) input.old result input.new }
     {
         parse_array(alloc, input)
     }
@@ -225,11 +242,14 @@ impl<A: Attributes, E: Value> Parse for TypeFnPtrOf<A, E> {
 
     ghost promise = { Headline (promises.fn_ptr A.Attributes E.Value) };
 
+    ghost fronts = { said (frontings.fn_ptr A.Attributes E.Value) };
+
     fn parse(alloc: Global, input: &mut ParseStream<'_>) -> Result<TypeFnPtrOf<A, E>, Error>
         ensures reads { Reads (knot.fn_ptr A.reads E.reads input.old) result input.new }
         ensures within { Follows input.old input.new }
         ensures promise { Heads (promises.fn_ptr A.Attributes E.Value) input.old result input.new }
-        ensures front { Takes (fronts.fn_ptr A.spells E.spells) input.old result input.new }
+        ensures fronts { Fronted (frontings.fn_ptr A.Attributes E.Value) input.old result input.new }
+        ensures takes { Takes (fronts.fn_ptr A.spells E.spells) input.old result input.new }
     {
         parse_fn_ptr(alloc, input)
     }
@@ -243,6 +263,8 @@ impl<A: Attributes, E: Value> Parse for TypeGroupOf<TypeOf<A, E>, A> {
 
     ghost promise = { Headline (promises.group A.Attributes E.Value) };
 
+    ghost fronts = { said (frontings.group A.Attributes E.Value) };
+
     fn parse(
         alloc: Global,
         input: &mut ParseStream<'_>,
@@ -250,7 +272,8 @@ impl<A: Attributes, E: Value> Parse for TypeGroupOf<TypeOf<A, E>, A> {
         ensures reads { Reads (knot.group A.reads E.reads input.old) result input.new }
         ensures within { Follows input.old input.new }
         ensures promise { Heads (promises.group A.Attributes E.Value) input.old result input.new }
-        ensures front { Takes (fronts.group A.spells E.spells) input.old result input.new }
+        ensures fronts { Fronted (frontings.group A.Attributes E.Value) input.old result input.new }
+        ensures takes { Takes (fronts.group A.spells E.spells) input.old result input.new }
     {
         parse_group(alloc, input)
     }
@@ -264,6 +287,8 @@ impl<A: Attributes, E: Value> Parse for TypeParenOf<TypeOf<A, E>, A> {
 
     ghost promise = { Headline (promises.paren A.Attributes E.Value) };
 
+    ghost fronts = { said (frontings.paren A.Attributes E.Value) };
+
     fn parse(
         alloc: Global,
         input: &mut ParseStream<'_>,
@@ -271,7 +296,8 @@ impl<A: Attributes, E: Value> Parse for TypeParenOf<TypeOf<A, E>, A> {
         ensures reads { Reads (knot.paren A.reads E.reads input.old) result input.new }
         ensures within { Follows input.old input.new }
         ensures promise { Heads (promises.paren A.Attributes E.Value) input.old result input.new }
-        ensures front { Takes (fronts.paren A.spells E.spells) input.old result input.new }
+        ensures fronts { Fronted (frontings.paren A.Attributes E.Value) input.old result input.new }
+        ensures takes { Takes (fronts.paren A.spells E.spells) input.old result input.new }
     {
         parse_paren(alloc, input)
     }
@@ -285,11 +311,14 @@ impl<A: Attributes, E: Value> Parse for TypePathOf<A, E> {
 
     ghost promise = { Headline (promises.path_type A.Attributes E.Value) };
 
+    ghost fronts = { said (frontings.path_type A.Attributes E.Value) };
+
     fn parse(alloc: Global, input: &mut ParseStream<'_>) -> Result<TypePathOf<A, E>, Error>
         ensures reads { Reads (knot.path_type A.reads E.reads input.old) result input.new }
         ensures within { Follows input.old input.new }
         ensures promise { Heads (promises.path_type A.Attributes E.Value) input.old result input.new }
-        ensures front { Takes (fronts.path_type A.spells E.spells) input.old result input.new }
+        ensures fronts { Fronted (frontings.path_type A.Attributes E.Value) input.old result input.new }
+        ensures takes { Takes (fronts.path_type A.spells E.spells) input.old result input.new }
     {
         parse_path_type(alloc, input)
     }
@@ -303,6 +332,8 @@ impl<A: Attributes, E: Value> Parse for TypePtrOf<TypeOf<A, E>, A> {
 
     ghost promise = { Headline (promises.ptr A.Attributes E.Value) };
 
+    ghost fronts = { said (frontings.ptr A.Attributes E.Value) };
+
     fn parse(
         alloc: Global,
         input: &mut ParseStream<'_>,
@@ -310,7 +341,8 @@ impl<A: Attributes, E: Value> Parse for TypePtrOf<TypeOf<A, E>, A> {
         ensures reads { Reads (knot.ptr A.reads E.reads input.old) result input.new }
         ensures within { Follows input.old input.new }
         ensures promise { Heads (promises.ptr A.Attributes E.Value) input.old result input.new }
-        ensures front { Takes (fronts.ptr A.spells E.spells) input.old result input.new }
+        ensures fronts { Fronted (frontings.ptr A.Attributes E.Value) input.old result input.new }
+        ensures takes { Takes (fronts.ptr A.spells E.spells) input.old result input.new }
     {
         parse_ptr(alloc, input)
     }
@@ -324,6 +356,8 @@ impl<A: Attributes, E: Value> Parse for TypeReferenceOf<TypeOf<A, E>, A> {
 
     ghost promise = { Headline (promises.reference A.Attributes E.Value) };
 
+    ghost fronts = { said (frontings.reference A.Attributes E.Value) };
+
     fn parse(
         alloc: Global,
         input: &mut ParseStream<'_>,
@@ -331,7 +365,8 @@ impl<A: Attributes, E: Value> Parse for TypeReferenceOf<TypeOf<A, E>, A> {
         ensures reads { Reads (knot.reference A.reads E.reads input.old) result input.new }
         ensures within { Follows input.old input.new }
         ensures promise { Heads (promises.reference A.Attributes E.Value) input.old result input.new }
-        ensures front { Takes (fronts.reference A.spells E.spells) input.old result input.new }
+        ensures fronts { Fronted (frontings.reference A.Attributes E.Value) input.old result input.new }
+        ensures takes { Takes (fronts.reference A.spells E.spells) input.old result input.new }
     {
         parse_reference(alloc, input)
     }
@@ -345,6 +380,8 @@ impl<A: Attributes, E: Value> Parse for TypeSliceOf<TypeOf<A, E>, A> {
 
     ghost promise = { Headline (promises.slice A.Attributes E.Value) };
 
+    ghost fronts = { said (frontings.slice A.Attributes E.Value) };
+
     fn parse(
         alloc: Global,
         input: &mut ParseStream<'_>,
@@ -352,7 +389,8 @@ impl<A: Attributes, E: Value> Parse for TypeSliceOf<TypeOf<A, E>, A> {
         ensures reads { Reads (knot.slice A.reads E.reads input.old) result input.new }
         ensures within { Follows input.old input.new }
         ensures promise { Heads (promises.slice A.Attributes E.Value) input.old result input.new }
-        ensures front { Takes (fronts.slice A.spells E.spells) input.old result input.new }
+        ensures fronts { Fronted (frontings.slice A.Attributes E.Value) input.old result input.new }
+        ensures takes { Takes (fronts.slice A.spells E.spells) input.old result input.new }
     {
         parse_slice(alloc, input)
     }
@@ -366,6 +404,8 @@ impl<A: Attributes, E: Value> Parse for TypeTupleOf<TypeOf<A, E>, A> {
 
     ghost promise = { Headline (promises.tuple A.Attributes E.Value) };
 
+    ghost fronts = { said (frontings.tuple A.Attributes E.Value) };
+
     fn parse(
         alloc: Global,
         input: &mut ParseStream<'_>,
@@ -373,7 +413,8 @@ impl<A: Attributes, E: Value> Parse for TypeTupleOf<TypeOf<A, E>, A> {
         ensures reads { Reads (knot.tuple A.reads E.reads input.old) result input.new }
         ensures within { Follows input.old input.new }
         ensures promise { Heads (promises.tuple A.Attributes E.Value) input.old result input.new }
-        ensures front { Takes (fronts.tuple A.spells E.spells) input.old result input.new }
+        ensures fronts { Fronted (frontings.tuple A.Attributes E.Value) input.old result input.new }
+        ensures takes { Takes (fronts.tuple A.spells E.spells) input.old result input.new }
     {
         parse_tuple(alloc, input)
     }
@@ -387,6 +428,8 @@ impl<A: Attributes, E: Value> Parse for NamedArgOf<TypeOf<A, E>, A> {
 
     ghost promise = { Headline (promises.named_arg A.Attributes E.Value) };
 
+    ghost fronts = { said (frontings.named_arg A.Attributes E.Value) };
+
     fn parse(
         alloc: Global,
         input: &mut ParseStream<'_>,
@@ -394,7 +437,8 @@ impl<A: Attributes, E: Value> Parse for NamedArgOf<TypeOf<A, E>, A> {
         ensures reads { Reads (knot.named_arg A.reads E.reads input.old) result input.new }
         ensures within { Follows input.old input.new }
         ensures promise { Heads (promises.named_arg A.Attributes E.Value) input.old result input.new }
-        ensures front { Takes (fronts.named_arg A.spells E.spells) input.old result input.new }
+        ensures fronts { Fronted (frontings.named_arg A.Attributes E.Value) input.old result input.new }
+        ensures takes { Takes (fronts.named_arg A.spells E.spells) input.old result input.new }
     {
         parse_named_arg(alloc, input)
     }
@@ -408,11 +452,14 @@ impl<A: Attributes> Parse for TypeNeverOf<A> {
 
     ghost promise = { Headline (grammars.never A.normal) };
 
+    ghost fronts = { said (grammars.never_front A.normal) };
+
     fn parse(alloc: Global, input: &mut ParseStream<'_>) -> Result<TypeNeverOf<A>, Error>
         ensures reads { Reads (reading.never input.old) result input.new }
         ensures within { Follows input.old input.new }
-        ensures front { Visible input.old.rest → IfOk result (λ x. IsNever false x input.old.rest input.new.rest) }
+        ensures takes { Visible input.old.rest → IfOk result (λ x. IsNever false x input.old.rest input.new.rest) }
         ensures promise { Heads (grammars.never A.normal) input.old result input.new }
+        ensures fronts { Fronted (grammars.never_front A.normal) input.old result input.new }
     {
         parse_never(alloc, input)
     }
@@ -426,11 +473,14 @@ impl<A: Attributes> Parse for TypeInferOf<A> {
 
     ghost promise = { Headline (grammars.infer A.normal) };
 
+    ghost fronts = { said (grammars.infer_front A.normal) };
+
     fn parse(alloc: Global, input: &mut ParseStream<'_>) -> Result<TypeInferOf<A>, Error>
         ensures reads { Reads (reading.infer input.old) result input.new }
         ensures within { Follows input.old input.new }
-        ensures front { Visible input.old.rest → IfOk result (λ x. IsInfer x input.old.rest input.new.rest) }
+        ensures takes { Visible input.old.rest → IfOk result (λ x. IsInfer x input.old.rest input.new.rest) }
         ensures promise { Heads (grammars.infer A.normal) input.old result input.new }
+        ensures fronts { Fronted (grammars.infer_front A.normal) input.old result input.new }
     {
         parse_infer(alloc, input)
     }
@@ -444,11 +494,14 @@ impl<A: Attributes> Parse for TypeMacroOf<A> {
 
     ghost promise = { Headline (grammars.macro_type A.normal) };
 
+    ghost fronts = { said (grammars.macro_type_front A.normal) };
+
     fn parse(alloc: Global, input: &mut ParseStream<'_>) -> Result<TypeMacroOf<A>, Error>
         ensures reads { Reads (reading.macro_type input.old) result input.new }
         ensures within { Follows input.old input.new }
-        ensures front { Visible input.old.rest → IfOk result (λ x. IsMacroType false x input.old.rest input.new.rest) }
+        ensures takes { Visible input.old.rest → IfOk result (λ x. IsMacroType false x input.old.rest input.new.rest) }
         ensures promise { Heads (grammars.macro_type A.normal) input.old result input.new }
+        ensures fronts { Fronted (grammars.macro_type_front A.normal) input.old result input.new }
     {
         parse_macro_type(alloc, input)
     }
@@ -462,11 +515,14 @@ impl Parse for Abi {
 
     ghost promise = { Headline promises.abi };
 
+    ghost fronts = { said frontings.abi };
+
     fn parse(alloc: Global, input: &mut ParseStream<'_>) -> Result<Abi, Error>
         ensures reads { Reads (reading.abi input.old) result input.new }
         ensures within { Follows input.old input.new }
         ensures promise { Heads promises.abi input.old result input.new }
-        ensures front { Takes IsAbi input.old result input.new }
+        ensures fronts { Fronted frontings.abi input.old result input.new }
+        ensures takes { Takes IsAbi input.old result input.new }
     {
         parse_abi(alloc, input)
     }
@@ -477,7 +533,8 @@ impl Abi {
     pub fn parse_optional(alloc: Global, input: &mut ParseStream<'_>) -> Result<Option<Abi>, Error>
         ensures parses { Parses reading.optional_abi result input.old input.new }
         ensures promise { Heads promises.optional_abi input.old result input.new }
-        ensures front { Takes (IsOptional IsAbi) input.old result input.new }
+        ensures fronts { Fronted frontings.optional_abi input.old result input.new }
+        ensures takes { Takes (IsOptional IsAbi) input.old result input.new }
     {
         parse_optional_abi(alloc, input)
     }

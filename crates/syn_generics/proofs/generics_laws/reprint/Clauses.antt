@@ -191,11 +191,6 @@ module _ {A E : Type 0} (na : List A → List A) (ne : NormalValues E) (pa : Lis
             same = h.same;
           }
 
-      -- what is spelt for a clause: itself, and nothing for one without predicates
-      pub data IsShown : WhereClauseOf A E → Toks → Toks → Type 0 where
-        with_predicates : {x : WhereClauseOf A E} {l r : Toks} → some x.predicates.0 ≡ true → IsWhereClause part clearly x l r → IsShown x l r
-        without_predicates : {q : token.Where} {r : Toks} → IsShown (where_clause_of q ([], [])) r r
-
       none_seen : (q : token.Where) (cs : List token.Comma) (l m r : Toks) → IsWord q l m → ArePredicates plainly false ([], cs) m r → (cs ≡ []) × (Visible l → Visible r)
       none_seen q cs l m r i (none_left u) = (refl, λ v. (word_front q l m i).seen v)
 
@@ -205,17 +200,6 @@ module _ {A E : Type 0} (na : List A → List A) (ne : NormalValues E) (pa : Lis
           by_list : (ys : List (WherePredicateOf A E)) → ArePredicates plainly false (ys, cs) m r → some ys ≡ true → AgainFront (IsWhereClause part clearly) (normals.where_clause na ne) (shown.where_clause pa pe) (where_clause_of q (ys, cs)) l r
           by_list [] j h = true_false (sym h)
           by_list (y ∷ ys) j h = some_again q y ys cs l m r i b j
-
-      pub where_again : (x : WhereClauseOf A E) (l r : Toks) → IsWhereClause part plainly x l r → AgainFront IsShown (normals.where_clause na ne) (shown.where_clause pa pe) x l r
-      where_again x l r (a_where_clause {q = q} {xs = xs} {cs = cs} {m = m} i b j) = by_list xs j
-        where
-          by_list : (ys : List (WherePredicateOf A E)) → ArePredicates plainly false (ys, cs) m r → AgainFront IsShown (normals.where_clause na ne) (shown.where_clause pa pe) (where_clause_of q (ys, cs)) l r
-          by_list [] j =
-              let e = none_seen q cs l m r i j in
-              record { spelt = λ k. subst (λ (z : List token.Comma). IsShown (where_clause_of q ([], z)) k k) (sym e.0) without_predicates; visible = λ k u v. v; seen = e.1; stays = refl; same = refl }
-          by_list (y ∷ ys) j =
-              let h = some_again q y ys cs l m r i b j in
-              record { spelt = λ k. with_predicates refl (h.spelt k); visible = λ k u v. h.visible k u v; seen = λ u. h.seen u; stays = h.stays; same = h.same }
 
       -- where a clause may be there, one without predicates is none
       pub optional_where_again : (o : Option (WhereClauseOf A E)) (l r : Toks) → IsOptional (IsWhereClause part plainly) o l r →

@@ -45,9 +45,12 @@ module _ {A E : Type 0} {na : List A → List A} {ne : NormalValues E} {pa : Lis
   pub stripped_again : (x : GenericsOf A E) (l : Toks) → by.SpellsGenerics shown spelt plainly x l → Again (by.SpellsGenerics shown spelt clearly) (clauses.generics na ne) (shown_clauses.generics pa pe) (stripped x) l
   stripped_again x l i = at_end (by.BeginsGenerics shown spelt clearly) (clauses.generics na ne) (shown_clauses.generics pa pe) (stripped x) l (stripped_fronts x l done i)
 
+  pub predicate_fronts : Fronts (by.BeginsPredicate shown spelt) (clauses.predicate na ne) (shown_clauses.predicate pa pe)
+  predicate_fronts =
+      front_of g (clauses.predicate na ne) (shown_clauses.predicate pa pe) IsPredicate (λ k. wheres.predicate_again na ne pa pe (To g k) (known g k).again (known g k).supplied (bounds_of_turn na ne pa pe (To g k) (known g k)) (no_for k))
+
   pub predicate_again : Whole (by.SpellsPredicate shown spelt) (clauses.predicate na ne) (shown_clauses.predicate pa pe)
-  predicate_again =
-      all_of g (clauses.predicate na ne) (shown_clauses.predicate pa pe) IsPredicate (λ k. wheres.predicate_again na ne pa pe (To g k) (known g k).again (known g k).supplied (bounds_of_turn na ne pa pe (To g k) (known g k)) (no_for k))
+  predicate_again x l i = at_end (by.BeginsPredicate shown spelt clearly) (clauses.predicate na ne) (shown_clauses.predicate pa pe) x l (predicate_fronts x l done i)
 
   pub optional_where_clause_fronts : Fronts (by.BeginsOptionalClause shown spelt) (clauses.where_option na ne) (p.optional (shown_clauses.where_clause pa pe))
   optional_where_clause_fronts =
@@ -58,7 +61,10 @@ module _ {A E : Type 0} {na : List A → List A} {ne : NormalValues E} {pa : Lis
   optional_where_clause_again x l i = at_end (by.BeginsOptionalClause shown spelt clearly) (clauses.where_option na ne) (p.optional (shown_clauses.where_clause pa pe)) x l (optional_where_clause_fronts x l done i)
 
   -- one without predicates prints nothing: as a clause of its own that is not spelt
+  pub where_clause_front : (x : WhereClauseOf A E) (l r : Toks) → by.BeginsClause shown spelt plainly x l r → some x.predicates.0 ≡ true → AgainFront (by.BeginsClause shown spelt clearly) (clauses.where_clause na ne) (shown_clauses.where_clause pa pe) x l r
+  where_clause_front x l r (k, i) h =
+      let w = wheres.clause_again na ne pa pe (To g k) (known g k).again (known g k).supplied (bounds_of_turn na ne pa pe (To g k) (known g k)) (no_for k) (known g k).attrs_begin (no_generics k) x l r i h in
+      record { spelt = λ m. (k, w.spelt m); visible = λ m u v. w.visible m u v; seen = λ u. w.seen u; stays = w.stays; same = w.same }
+
   pub where_clause_again : (x : WhereClauseOf A E) (l : Toks) → by.SpellsClause shown spelt plainly x l → some x.predicates.0 ≡ true → Again (by.SpellsClause shown spelt clearly) (clauses.where_clause na ne) (shown_clauses.where_clause pa pe) x l
-  where_clause_again x l (k, i) h =
-      let w = wheres.clause_again na ne pa pe (To g k) (known g k).again (known g k).supplied (bounds_of_turn na ne pa pe (To g k) (known g k)) (no_for k) (known g k).attrs_begin (no_generics k) x l done i h in
-      record { spelt = (k, w.spelt done); visible = λ u. w.visible done u tt; stays = w.stays; same = w.same }
+  where_clause_again x l i h = at_end (by.BeginsClause shown spelt clearly) (clauses.where_clause na ne) (shown_clauses.where_clause pa pe) x l (where_clause_front x l done i h)

@@ -152,12 +152,6 @@ module _ {A E : Type 0} (type : Reader (TypeTree A E)) (r : Readers A E) (part :
     unfolding declared.predicate
     asked_took s t x at v e = with_attrs attrs part took_attrs (IsPredicate part loosely) (predicate_after type r) s t x (λ a u i. predicate_after_took a u t x (at a u i)) v e
 
--- where the law of the type holds everywhere
-module _ {A E : Type 0} (attrs : Reader (List A)) (values : ReadValues E) (type : Reader (TypeTree A E)) (r : Readers A E) (part : Manner → Parts A E) (h : Held r part) (f : Supplied attrs values part)
-    (took_type : (s t : Stream) (x : TypeTree A E) → Visible s.rest → type s ≡ Ok (x, t) → TookOne (Told ((part loosely).ty Bounded)) s t x) where
-  pub predicate_took : (s t : Stream) (x : WherePredicateOf A E) → Visible s.rest → declared.predicate attrs type r s ≡ Ok (x, t) → TookOne (IsPredicate part loosely) s t x
-  predicate_took s t x v e = asked_took type r part h (λ z. Unit {0}) (λ a b y u i j. took_type a b y i j) attrs f.attrs_took s t x (λ a u i. λ o z j. tt) v e
-
 -- ---- where clauses
 
 -- what begins as generics do is seen to be generics

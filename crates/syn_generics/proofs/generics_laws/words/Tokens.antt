@@ -6,7 +6,7 @@ pub use Rattle.token_core.specs.Lists.{joined}
 pub use Rattle.token_core.specs.Loops.{Many}
 pub use Rattle.token_core.specs.Marks.{text_of}
 pub use Rattle.token_core.specs.Prints.{Print}
-pub use Rattle.token_core.specs.Reads.{Reader, and_then, pure, any_text, as_word, is_text, word_meets, builtin_text, is_ident, meets, second, third, optional}
+pub use Rattle.token_core.specs.Reads.{Reader, any_text, as_word, is_text, word_meets, builtin_text, is_ident, meets, second, third, optional}
 unfoldable pub use Rattle.token_core.specs.Reads.{is_done, sees_group, sees_word, after_one, sees_mark}
 pub use Rattle.token_core.specs.Rebuilt.{Visible}
 pub use Rattle.token_core.specs.Spans.{none}

@@ -11,6 +11,6 @@ pub use Rattle.syn_ty.specs.generics.Spelling.{a_binder}
 pub use Rattle.syn_ty.specs.generics.Views.{strip, strip_layer}
 pub use Rattle.syn_ty.specs.ty.Knot.{reads_below, ty}
 pub use Rattle.syn_ty.specs.ty.Parts.{Manner, plainly, clearly, End, Parts, loosely}
-pub use Rattle.syn_ty.specs.ty.Points.{Readers, a_param, Point, a_type}
+pub use Rattle.syn_ty.specs.ty.Points.{Readers, a_param}
 pub use Rattle.syn_ty.specs.ty.Spelling.{IsOptional, absent, present, an_infer, a_never, Relation}
 pub use Rattle.syn_ty.specs.ty.Trees.{BoundLifetimes, TypeTree, GenericParam, Path, PathArguments, PathSegment, QSelf, TypeFnPtr, TypeParamBound, ConstParam}

@@ -1,18 +1,22 @@
 -- The read of patterns, tied, is complete: at every height of a pattern, what a list spells clearly is what it answers, and it takes no more; and so is the read of one with a guard and of one with a type.
-use Rattle.std.proofs.Common.{◌≡◌, ℕ, zero, suc, ◌≤◌, true, false, Option, None, Ok, refl, ◌∙◌, arith}
-use Rattle.syn_pat.proofs.pat_laws.words.Tokens.{Span, Reader, is_done, leaves, sees_word, Scope, Stream, Toks, done}
+use Rattle.std.proofs.Common.{◌≡◌, ℕ, zero, suc, ◌≤◌, true, false, [], Option, None, Ok, refl, ◌∙◌, arith}
+use Rattle.syn_pat.proofs.pat_laws.words.Tokens.{Span, IsMark, Reader, is_done, leaves, sees_mark, sees_word, Scope, Stream, Toks, done}
 use Rattle.syn_pat.proofs.pat_laws.words.Paths.{Place}
-use Rattle.syn_pat.proofs.pat_laws.words.Forms.{ahead}
-use Rattle.syn_pat.proofs.pat_laws.words.Types.{clearly}
-use Rattle.syn_pat.proofs.pat_laws.words.Patterns.{type_names, PatPlace, Single, LeadingVert, IsPat, pat, Pat, PatType, SpellsGuarded, without_guard, with_guard, SpellsPat, SpellsPatType, a_pat_type, pats_to}
+use Rattle.syn_pat.proofs.pat_laws.words.Forms.{Plus, ahead}
+use Rattle.syn_pat.proofs.pat_laws.words.Types.{clearly, End, TypeTree}
+use Rattle.syn_pat.proofs.pat_laws.words.Attributes.{Expr}
+use Rattle.syn_pat.proofs.pat_laws.words.Patterns.{types_to, type_names, PatPlace, Single, LeadingVert, IsPat, pat, Pat, PatType, SpellsGuarded, without_guard, with_guard, SpellsPat, SpellsPatType, a_pat_type, pats_to}
 use Rattle.token_core.specs.Tokens as token
 use Rattle.token_core.proofs.MarkSpells.{mark_complete}
 use Rattle.token_core.proofs.Steps.{Reads_to, chosen, link}
 use Rattle.token_core.proofs.Took.{at, leaves_none}
 use Rattle.token_core.proofs.WordSpells.{word_complete, word_seen}
 use Rattle.syn_path.proofs.Words.{uses_none}
+use Rattle.syn_attr.specs.attr.Attrs.{Attribute as Attr}
 use Rattle.syn_ty.proofs.ty_laws.complete.Knot.{below_met}
-use Rattle.syn_ty.proofs.ty_laws.complete.Within.{Less}
+use Rattle.syn_ty.proofs.ty_laws.complete.Bound.{done_fits}
+use Rattle.syn_ty.proofs.ty_laws.complete.Within.{Fits, Less}
+use Rattle.syn_pat.specs.pat.Pats.{typed_of}
 use Rattle.syn_pat.specs.pat.Knot.{guard_after, guarded, pats_below, typed, typed_over}
 use Rattle.syn_pat.proofs.pat_laws.complete.Cases.{turn_met}
 use Rattle.syn_pat.proofs.pat_laws.complete.Firsts.{pat_less, pat_there}
@@ -90,10 +94,19 @@ module _ {X : Type 0} (supplied : Place → Reader X) (spells : Place → X → 
 
   -- ---- with a type
 
-  pub typed_complete : (s : Stream) (x : PatType X) → s.left ≡ None → SpellsPatType spells clearly x s.rest → Whole (typed supplied) x s
+  pub typed_met : (h z : ℕ) (d : End) (y : Pat X) (c : token.Colon) (t : TypeTree (Attr X) (Expr X)) (l m j k : Toks) (f : Option Span) (e : Span) (sc : Scope) → IsPat spells (pats_to spells h) clearly Single y l m → IsMark true c m j → (types_to spells z clearly).ty Plus d t j k → Fits d k → token.sees_plus k ≡ false → Reads_to (typed supplied) (typed_of [] y c t) l k f e sc
   unfolding typed_over
+  typed_met h z d y c t l m j k f e sc i q v o n =
+      let w = pat_met h Single y l m f e sc i (single_in m (at_colon c m j q)) in
+      let a = mark_complete true {n = 7} {k = 1} refl (omega arith) c m j f w.last sc q in
+      let u = g.ty z d t j k f a.last sc v o n in
+      record { last = u.last; reads = link _ w.reads (link _ a.reads (link _ u.reads refl)) }
+
+  no_plus : token.sees_plus done ≡ false
+  unfolding sees_mark
+  no_plus = refl
+
+  pub typed_complete : (s : Stream) (x : PatType X) → s.left ≡ None → SpellsPatType spells clearly x s.rest → Whole (typed supplied) x s
   typed_complete s x n (a_pat_type {x = y} {c = c} {t = t} {m = m} {j = j} h z d i q v) =
-      let w = pat_met h Single y s.rest m s.left s.last s.scope i (single_in m (at_colon c m j q)) in
-      let a = mark_complete true {n = 7} {k = 1} refl (omega arith) c m j s.left w.last s.scope q in
-      let u = g.ty z d t j s.left a.last s.scope v in
-      (at done s.left u.last s.scope, link _ w.reads (link _ a.reads (link _ u.reads refl)), leaves_none s.left u.last s.scope n)
+      let w = typed_met h z d y c t s.rest m j done s.left s.last s.scope i q v (done_fits d) no_plus in
+      (at done s.left w.last s.scope, w.reads, leaves_none s.left w.last s.scope n)

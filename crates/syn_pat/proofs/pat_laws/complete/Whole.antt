@@ -1,7 +1,7 @@
 -- Over what types ask of attributes and expressions, and over the law of a supplied subtree, each whole read of a pattern, of a pattern with a guard and of one with a type is complete.
 use Rattle.std.proofs.Common.{◌≡◌, ℕ, zero, suc, false, Option, Ok, refl}
 use Rattle.std.proofs.lemmas.Bool.{and_left}
-use Rattle.syn_pat.proofs.pat_laws.words.Tokens.{Span, Reader, sees_mark, Scope, Stream, Toks, done}
+use Rattle.syn_pat.proofs.pat_laws.words.Tokens.{Span, Reader, Scope, Stream, Toks}
 use Rattle.syn_pat.proofs.pat_laws.words.Paths.{Place, Block, Guard, UsesUp}
 use Rattle.syn_pat.proofs.pat_laws.words.Forms.{Plus, goes_on}
 use Rattle.syn_pat.proofs.pat_laws.words.Attributes.{outer, Expr}
@@ -13,11 +13,10 @@ use Rattle.syn_path.specs.declared.path.PathStyle.TheVariants.{Expr as expressio
 use Rattle.syn_attr.specs.attr.Attrs.{Attribute as Attr}
 use Rattle.syn_forms.specs.paths.Reading.{sees_turbofish}
 use Rattle.syn_ty.proofs.ty_laws.complete.Alone.{maybe_qualified_met, ty_met}
-use Rattle.syn_ty.proofs.ty_laws.complete.Bound.{done_fits}
 use Rattle.syn_ty.proofs.ty_laws.complete.FirstPaths.{any_path_starts}
 use Rattle.syn_ty.proofs.ty_laws.complete.Firsts.{starts_to}
 use Rattle.syn_ty.proofs.ty_laws.complete.Knot.{GivenMeets, given_begins}
-use Rattle.syn_ty.proofs.ty_laws.complete.Within.{Less, PathStops}
+use Rattle.syn_ty.proofs.ty_laws.complete.Within.{Fits, Less, PathStops}
 use Rattle.syn_ty.proofs.ty_laws.complete.Whole.{Whole}
 use Rattle.syn_pat.specs.pat.Knot as knot
 use Rattle.syn_pat.proofs.pat_laws.complete.Knot as met
@@ -27,10 +26,6 @@ use Rattle.syn_pat.proofs.pat_laws.complete.Within.{SuppliedMeets}
 path_over : (k : Toks) → token.sees_path_sep k ≡ false → PathStops expressions k
 unfolding goes_on sees_turbofish
 path_over k h = record { no_more = and_left (token.sees_path_sep k) _ h; no_arguments = and_left (token.sees_path_sep k) _ h }
-
-no_plus : token.sees_plus done ≡ false
-unfolding sees_mark
-no_plus = refl
 
 module _ {X : Type 0} (reads : Place → Reader X) (spells : Place → X → Toks → Type 0) (given : GivenMeets (outer reads) (values reads) (outer_spelt spells) (values_spelt spells))
     (complete : (p : Place) (s : Stream) (x : X) → spells p x s.rest → (t : Stream) × (reads p s ≡ Ok (x, t)) × UsesUp s t) where
@@ -42,9 +37,9 @@ module _ {X : Type 0} (reads : Place → Reader X) (spells : Place → X → Tok
       let begins = given_begins (outer reads) (values reads) (outer_spelt spells) (values_spelt spells) given in
       (any_path_starts (starts_to (outer_spelt spells) (values_spelt spells) begins n) expressions q p l k i.0).1
 
-  type_met : (n : ℕ) (d : End) (x : TypeTree (Attr X) (Expr X)) (l : Toks) (f : Option Span) (e : Span) (sc : Scope) → (types_to spells n clearly).ty Plus d x l done → Reads_to (knot.ty reads) x l done f e sc
-  type_met zero d x l f e sc i = absurd i
-  type_met (suc n) d x l f e sc i = ty_met given n Plus d x l done f e sc i (done_fits d) (λ z. no_plus)
+  type_met : (n : ℕ) (d : End) (x : TypeTree (Attr X) (Expr X)) (l k : Toks) (f : Option Span) (e : Span) (sc : Scope) → (types_to spells n clearly).ty Plus d x l k → Fits d k → token.sees_plus k ≡ false → Reads_to (knot.ty reads) x l k f e sc
+  type_met zero d x l k f e sc i o u = absurd i
+  type_met (suc n) d x l k f e sc i o u = ty_met given n Plus d x l k f e sc i o (λ z. u)
 
   pub supplied : SuppliedMeets reads spells
   supplied = record {

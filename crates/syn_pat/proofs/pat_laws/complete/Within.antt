@@ -14,13 +14,12 @@ use Rattle.token_core.proofs.Took.{at}
 use Rattle.token_core.proofs.Unseen.{colon_apart, or_apart, or_no_eq, word_no_mark}
 use Rattle.token_core.proofs.WordSpells.{word_seen}
 use Rattle.syn_attr.specs.attr.Attrs.{Attribute as Attr}
-use Rattle.syn_ty.proofs.ty_laws.complete.Within.{Less, NoMore}
+use Rattle.syn_ty.proofs.ty_laws.complete.Within.{Fits, Less, NoMore}
 use Rattle.syn_ty.proofs.ty_laws.complete.Tokens.{other_mark}
 use Rattle.syn_pat.specs.pat.Admitted.{allows_cases}
-use Rattle.syn_pat.proofs.pat_laws.sound.Within.{Stops}
 use Rattle.syn_pat.specs.pat.Knot as knot
 use Rattle.syn_pat.specs.pat.Reading.{sees_lone_colon}
-use Rattle.syn_pat.proofs.pat_laws.complete.Fronts.{done_no_group, done_no_mark, mark_apart, no_longer, word_apart}
+use Rattle.syn_pat.proofs.pat_laws.complete.Fronts.{done_no_group, done_no_mark, mark_apart, word_apart}
 
 -- ---- what may follow
 
@@ -99,11 +98,6 @@ ends k o =
       ]
     ]
 
--- ---- before it a lone word is no path
-
-pub ends_stop : (k : Toks) → Ends k → Stops k
-ends_stop k o = (and_left (token.sees_path_sep k) _ o.no_sep, no_longer 33 (61 ∷ []) k o.no_bang)
-
 -- ---- what follows a pattern in the grammar: the end, a comma, `|`, `if`, and a `:` that stands apart
 
 pub at_end : Ends done
@@ -174,8 +168,8 @@ module _ {X : Type 0} where
     -- a path that a type may qualify, in the style of expressions
     pub path : (q : Option (QSelf (Attr X) (Expr X))) (p : Path (Attr X) (Expr X)) (l k : Toks) (f : Option Span) (e : Span) (sc : Scope) → IsPatPath spells clearly q p l k → token.sees_path_sep k ≡ false → Reads_to (qpath supplied) (q, p) l k f e sc
     pub path_less : (q : Option (QSelf (Attr X) (Expr X))) (p : Path (Attr X) (Expr X)) (l k : Toks) → IsPatPath spells clearly q p l k → Less l k
-    -- the type of a pattern, which spells all that is left
-    pub ty : (n : ℕ) (d : End) (x : TypeTree (Attr X) (Expr X)) (l : Toks) (f : Option Span) (e : Span) (sc : Scope) → (types_to spells n clearly).ty Plus d x l done → Reads_to (knot.ty supplied) x l done f e sc
+    -- the type of a pattern
+    pub ty : (n : ℕ) (d : End) (x : TypeTree (Attr X) (Expr X)) (l k : Toks) (f : Option Span) (e : Span) (sc : Scope) → (types_to spells n clearly).ty Plus d x l k → Fits d k → token.sees_plus k ≡ false → Reads_to (knot.ty supplied) x l k f e sc
     -- attributes before a field
     pub attrs : (x : Attrs X) (l k : Toks) (f : Option Span) (e : Span) (sc : Scope) → outer_spelt spells true x l k → token.sees_pound k ≡ false → Reads_to (outer supplied) x l k f e sc
     pub attrs_begin : (x : Attrs X) (l k : Toks) → outer_spelt spells true x l k → (l ≡ k) ⊎ (token.sees_pound l ≡ true)

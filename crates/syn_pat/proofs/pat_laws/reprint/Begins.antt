@@ -1,6 +1,6 @@
 -- Whether a pattern begins with `mut` is told by its tree, and so is whether it is a range that lacks an end: both stay in its normal form.
 use Rattle.std.proofs.Common.{◌≡◌, Bool, true, false, not, ◌||◌, if◌then◌else◌, is_some, List, Option, Some, None, refl, sym, ◌∙◌, ap}
-use Rattle.syn_pat.proofs.pat_laws.words.Tokens.{Lit, RangeLimits, Ident, Joint, is_keyword, AreListed, none_left, last_value, value_and_mark, Nowhere, text_of, is_done, is_text, sees_word, last_char, more_chars, IsLit, a_literal, a_bool, a_negative, IsMark, is_mark, is_word, AreLimits, half_open, closed, Bytes, Toks, done, word, mark, group, TokenStream, punct, row, trees}
+use Rattle.syn_pat.proofs.pat_laws.words.Tokens.{Lit, RangeLimits, Ident, Joint, is_keyword, AreListed, none_left, last_value, value_and_mark, Nowhere, text_of, is_done, is_text, sees_word, last_char, more_chars, IsLit, a_literal, a_bool, a_negative, IsMark, is_mark, is_word, AreLimits, half_open, closed, Bytes, Toks, done, word, mark, TokenStream, punct, row, trees}
 use Rattle.syn_pat.proofs.pat_laws.words.Paths.{Macro, PathStyle, Place, IsCall, a_macro, ModPath, nothing, IsBarePath, a_bare_path, no_leading, leading, last_segment, more_segments}
 use Rattle.syn_pat.proofs.pat_laws.words.Attributes.{Expr, ExprConstOf}
 use Rattle.syn_pat.proofs.pat_laws.words.Types.{Sep, is_segment_word, IsAnyPath, unqualified, qualified, by_type, by_type_as_path, IsSegment, a_word, a_word_with_arguments, Manner, loosely, plainly, clearly, IsVerbatim, Parts, absent, present, Relation, Path, PathSegment, QSelf, TypeTree}
@@ -148,10 +148,6 @@ limits_no_mut : (clear : Bool) (t : RangeLimits) (l r : Toks) → AreLimits clea
 unfolding sees_word
 limits_no_mut clear t l r (half_open (is_mark (more_chars x))) = refl
 limits_no_mut clear t l r (closed (is_mark (more_chars x))) = refl
-
-group_no_mut : (d : _) (s : _) (c r : Toks) → token.sees_mut (group d s c r) ≡ false
-unfolding sees_word
-group_no_mut d s c r = refl
 
 lit_no_mut : (x : Lit) (l r : Toks) → IsLit x l r → token.sees_mut l ≡ false
 unfolding sees_word

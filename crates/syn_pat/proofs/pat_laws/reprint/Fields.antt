@@ -2,7 +2,7 @@
 use Rattle.std.proofs.Common.{◌≡◌, Bool, true, false, [], ◌++◌, map, Option, Some, None, refl, sym, ◌∙◌, ap, subst, append-nil}
 use Rattle.syn_pat.proofs.pat_laws.words.Tokens.{Member, Ident, Anywhere, Many, Print, is_ident, Visible, IsMark, IsMember, IsWord, Bytes, Toks, done, word, TokenStream, row, trees}
 use Rattle.syn_pat.proofs.pat_laws.words.Paths.{Place}
-use Rattle.syn_pat.proofs.pat_laws.words.Types.{many, Manner, plainly, clearly, IsVerbatim, AreMarked, IsOptional, absent, present, Relation, Comma}
+use Rattle.syn_pat.proofs.pat_laws.words.Types.{many, Manner, plainly, clearly, IsVerbatim, IsOptional, absent, present, Relation, Comma}
 use Rattle.syn_pat.proofs.pat_laws.words.Patterns.{types_shown, PatPlace, Single, LeadingVert, IsBinding, a_binding, IsBoxedName, IsField, with_colon, without_colon, boxed, AreFields, fields_alone, fields_and_rest, IsSubpat, a_subpat, Attrs, FieldPat, Pat, PatIdent, PatRest, binding_of, field_of, rest_of, outer_spelt, is_binding_name}
 use Rattle.token_core.specs.declared.member.Member.TheVariants as member
 use Rattle.token_core.specs.Members as members
@@ -136,12 +136,6 @@ module _ {X : Type 0} (spells : Place → X → Toks → Type 0) (nx : Place →
 
     abbrev rest_held : All → Held
     rest_held z = (z.0, Some (rest_of z.1.0 z.1.1))
-
-    abbrev print_all : All → Print
-    print_all z = printing.fields px (types_shown px) z.0 ++ (printing.attrs px z.1.0 ++ p.mark z.1.1)
-
-    abbrev AreMarkedFields : Many (FieldPat X) Comma → Toks → Toks → Type 0
-    AreMarkedFields z = AreMarked (λ (_ : Bool). Fields) (IsMark true) true z.0 z.1
 
     pub fields_again : (w : Many (FieldPat X) Comma) (o : Option (PatRest X)) (l : Toks) → AreFields spells part plainly w o l → Again AreHeld normal_held print_held (w, o) l
     fields_again w o l (fields_alone {xs = xs} {cs = cs} i) =

@@ -65,9 +65,6 @@ module _ {A : Type 0} {S : A → Toks → Toks → Type 0} {n : A → A} {f : A 
   pub stopped : {x : A} {l r : Toks} → AgainFront S n f x l r → AgainFront (Stopped S) n f x l r
   stopped k = record { spelt = λ o h. k.spelt o; visible = k.visible; seen = k.seen; stays = k.stays; same = k.same }
 
-  pub at_stop : {x : A} {l : Toks} → AgainFront (Stopped S) n f x l done → Again (λ y m. S y m done) n f x l
-  at_stop k = record { spelt = k.spelt done stops_done; visible = λ u. k.visible done u tt; stays = k.stays; same = k.same }
-
 -- a comma, a `|`, a colon or a word follows
 
 pub comma_stops : (c : Comma) (l r : Toks) → IsMark true c l r → NoDots l

@@ -56,7 +56,7 @@ module _ {A B : Type 0} (S : A → Toks → Type 0) (T : B → Toks → Type 0) 
 
 module _ {X : Type 0} (spells : Place → X → Toks → Type 0) (nx : Place → X → X) (px : Place → X → Print) (g : SuppliedAgain spells nx px) where
   -- on the front of a list
-  front_again : (n : ℕ) (place : PatPlace) (x : Pat X) (l r : Toks) → IsPat spells (pats_to spells n) plainly place x l r → AgainFront (Stopped (IsPat spells (pats_to spells n) clearly place)) (normal.pat nx) (printing.pat px (types_shown px)) x l r
+  pub front_again : (n : ℕ) (place : PatPlace) (x : Pat X) (l r : Toks) → IsPat spells (pats_to spells n) plainly place x l r → AgainFront (Stopped (IsPat spells (pats_to spells n) clearly place)) (normal.pat nx) (printing.pat px (types_shown px)) x l r
   front_again n place = pat_again spells nx px g (pats_to spells n) (pats_again spells nx px g n) place
 
   pub pat_whole : (place : PatPlace) → Whole (SpellsPat spells place) (normal.pat nx) (printing.pat px (types_shown px))

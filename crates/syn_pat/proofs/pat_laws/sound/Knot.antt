@@ -1,7 +1,7 @@
 -- The law of patterns, tied by the count of turns; and so where all of a list is read as a pattern, as one with a guard or with a type, it is spelt.
 use Rattle.std.proofs.Common.{◌≡◌, ℕ, zero, suc, Bool, false, [], None, Ok, inl, inr, refl, sym, ◌∙◌, ap, subst, arith}
 use Rattle.syn_pat.proofs.pat_laws.words.Tokens.{Reader, leaves, Visible, IsMark, IsWord, Stream, Toks, done}
-use Rattle.syn_pat.proofs.pat_laws.words.Paths.{Place, Guard, Along}
+use Rattle.syn_pat.proofs.pat_laws.words.Paths.{Place, Guard}
 use Rattle.syn_pat.proofs.pat_laws.words.Forms.{Plus, ahead}
 use Rattle.syn_pat.proofs.pat_laws.words.Attributes.{Expr}
 use Rattle.syn_pat.proofs.pat_laws.words.Types.{Manner, loosely, End, Relation, TypeTree}
@@ -63,7 +63,7 @@ module _ {X : Type 0} (supplied : Place → Reader X) (spells : Place → X → 
   -- ---- patterns, at some height
 
   -- an admitted one, where neither `::` before parentheses nor `!=` follows
-  pat_told : (place : PatPlace) (s t : Stream) (x : Pat X) → Visible s.rest → pat supplied (type_names supplied) place s ≡ Ok (x, t) → TookOne (Before Stops (IsSomePat spells place)) s t x
+  pub pat_told : (place : PatPlace) (s t : Stream) (x : Pat X) → Visible s.rest → pat supplied (type_names supplied) place s ≡ Ok (x, t) → TookOne (Before Stops (IsSomePat spells place)) s t x
   unfolding pat
   pat_told place s t x v e =
       let k = (turns_told (suc (ahead s))).took place s t x v e in
@@ -76,10 +76,6 @@ module _ {X : Type 0} (supplied : Place → Reader X) (spells : Place → X → 
       let k = (turns on_fronts (fronts_to spells) (λ n p y l r i. i) (suc (ahead s))).took place s t x v e in
       let a = pat_told place s t x v e in
       record { left = k.left; seen = k.seen; spelt = λ n. ((ahead s, k.spelt n tt), λ h. a.spelt n (not_lone t.rest h)) }
-
-  pub pat_along : (place : PatPlace) → Along {A = Pat X} (pat supplied (type_names supplied) place)
-  unfolding pat
-  pat_along place s t x e = (turns_told (suc (ahead s))).along place s t x e
 
   -- all of a list
   pub pat_sound : (place : PatPlace) (s t : Stream) (x : Pat X) → Visible s.rest → pat supplied (type_names supplied) place s ≡ Ok (x, t) → leaves t ≡ None → SpellsPat spells place loosely x s.rest

@@ -3,7 +3,7 @@ use Rattle.std.proofs.Common.{◌≡◌, ℕ, ◌≤◌, Bool, true, false, List
 use Rattle.syn_ty.proofs.ty_laws.words.Tokens.{Span, Reader, Scope, Toks}
 use Rattle.syn_ty.proofs.ty_laws.words.Paths.{PathStyle, AsWritten, Expr, sees_sep, ReadValues, SpelledValues}
 use Rattle.syn_ty.proofs.ty_laws.words.Forms.{BoundPlace, Object, ParamPlace, TypePlace, NoPlus, Plus, ahead, sees_arguments, allows_plus}
-use Rattle.syn_ty.proofs.ty_laws.words.Types.{IsBound, IsFor, IsTraitBound, IsConstParam, IsParam, IsTypeParam, ArgumentPlace, IsArgument, IsParens, IsReturn, IsAngle, IsAnyPath, IsArguments, IsPath, IsSegment, Styled, IsBorrow, IsBracketed, IsCounted, IsEnclosed, IsPointer, IsTupled, IsType, IsFnPtr, IsNamedArg, reads_below, IsImpl, IsObject, Manner, clearly, End, Parts, Readers, IsOptional, IsPathAlone, spelt_to, AngleBracketed, BoundLifetimes, ConstParam, GenericArgument, GenericParam, NamedArg, Parenthesized, Path, PathArguments, PathSegment, QSelf, ReturnType, TraitBound, TypeArray, TypeFnPtr, TypeImplTrait, TypeParam, TypeParamBound, TypeParen, TypePath, TypePtr, TypeReference, TypeSlice, TypeTraitObject, TypeTree, TypeTuple}
+use Rattle.syn_ty.proofs.ty_laws.words.Types.{IsBound, IsFor, IsTraitBound, IsConstParam, IsParam, IsTypeParam, ArgumentPlace, IsArgument, IsParens, IsReturn, IsAngle, IsAnyPath, IsPath, IsSegment, Styled, IsBorrow, IsBracketed, IsCounted, IsEnclosed, IsPointer, IsTupled, IsType, IsFnPtr, IsNamedArg, reads_below, IsImpl, IsObject, Manner, clearly, End, Parts, Readers, IsOptional, IsPathAlone, spelt_to, AngleBracketed, BoundLifetimes, ConstParam, GenericArgument, GenericParam, NamedArg, Parenthesized, Path, PathSegment, QSelf, ReturnType, TraitBound, TypeArray, TypeFnPtr, TypeImplTrait, TypeParam, TypeParamBound, TypeParen, TypePath, TypePtr, TypeReference, TypeSlice, TypeTraitObject, TypeTree, TypeTuple}
 use Rattle.token_core.specs.Tokens as token
 use Rattle.token_core.proofs.Steps.{Reads_to}
 use Rattle.token_core.proofs.Took.{at}
@@ -58,9 +58,6 @@ module _ {A E : Type 0} {attrs : Reader (List A)} {values : ReadValues E} {shown
 
   pub argument_met : (n : ℕ) (place : ArgumentPlace) (x : GenericArgument A E) (l k : Toks) (f : Option Span) (e : Span) (sc : Scope) → IsArgument (IsType (To n) clearly Plus) (To n) clearly place x l k → EndsArgument place k → Reads_to (knot.argument attrs values) x l k f e sc
   argument_met n place x l k f e sc i o = of_knot.argument_by attrs values shown spelt g n place x l k f e sc (below (ahead (at l f e sc))) i o
-
-  pub arguments_met : (n : ℕ) (x : PathArguments A E) (l k : Toks) (f : Option Span) (e : Span) (sc : Scope) → IsArguments (To n) clearly x l k → Reads_to (knot.arguments attrs values) x l k f e sc
-  arguments_met n x l k f e sc i = of_knot.arguments_by attrs values shown spelt g n x l k f e sc (below (ahead (at l f e sc))) i
 
   -- ---- what stands within a tree of some height is a tree of one height more
 

@@ -1,23 +1,21 @@
 -- Arguments in angle brackets that a list spells clearly are what their reads answer, over the reads of the arguments: with a `::` or without it, and as the arguments of a segment.
 use Rattle.std.proofs.Common.{◌≡◌, ℕ, ◌<◌, ◌≤◌, Bool, true, false, not, List, Option, Some, None, refl, sym, ◌∙◌, ap, arith}
-use Rattle.std.proofs.lemmas.Bool.{true≢false, and_from, or_left, or_right}
-use Rattle.syn_ty.proofs.ty_laws.words.Tokens.{Span, AreListed, Anywhere, none_left, last_value, value_and_mark, terminated, after_one, optional, sees_mark, none, IsMark, is_mark, last_char, more_chars, Scope, Toks}
-use Rattle.syn_ty.proofs.ty_laws.words.Paths.{AsWritten, Expr, sees_sep, sep}
-use Rattle.syn_ty.proofs.ty_laws.words.Forms.{ahead, sees_arguments, sees_turbofish, comma, sees_gt}
+use Rattle.std.proofs.lemmas.Bool.{true≢false}
+use Rattle.syn_ty.proofs.ty_laws.words.Tokens.{Span, AreListed, Anywhere, terminated, optional, sees_mark, none, IsMark, is_mark, last_char, more_chars, Scope, Toks}
+use Rattle.syn_ty.proofs.ty_laws.words.Paths.{Expr, sees_sep, sep}
+use Rattle.syn_ty.proofs.ty_laws.words.Forms.{ahead, comma, sees_gt}
 use Rattle.syn_ty.proofs.ty_laws.words.Types.{Sep, angle_of, arguments_step, ends_constraint, Styled, IsAngle, an_angle, IsArguments, Manner, clearly, Parts, Readers, an_argument, IsOptional, absent, present, AngleBracketed, GenericArgument, PathArguments}
 use Rattle.token_core.specs.Tokens as token
 use Rattle.token_core.proofs.MarkSpells.{mark_complete, mark_seen, mark_size}
 use Rattle.token_core.proofs.Steps.{Reads_to, chosen, link}
 use Rattle.token_core.proofs.Took.{at}
-use Rattle.token_core.proofs.Unseen.{lt_apart, lt_no_shift}
-use Rattle.syn_path.specs.path.Reading.{sees_angle}
 use Rattle.syn_forms.specs.heads.Reading as heads
 use Rattle.syn_forms.proofs.lists_laws.Complete.{listed_here}
 use Rattle.syn_forms.proofs.nested_laws.Ahead.{ahead-is, weight}
 use Rattle.syn_ty.specs.path.Reading.{angle_bracketed, arguments_after, turbofish}
 use Rattle.syn_ty.specs.path.Spelling.{some_arguments}
 use Rattle.syn_ty.proofs.ty_laws.complete.Leaves.{comma_light, later, not_more}
-use Rattle.syn_ty.proofs.ty_laws.complete.Within.{Firsts, Less, Meets, NoMore}
+use Rattle.syn_ty.proofs.ty_laws.complete.Within.{Less, Meets, NoMore}
 
 -- ---- marks
 
@@ -62,67 +60,16 @@ no_further l k f g d e sc limit h lim =
     let y = ahead-is (at k g e sc) in
     omega (arith, h, lim, x, y)
 
--- ---- how they begin
+-- ---- the reads
 
--- a clear `<` begins no longer mark
-lt_angle : (o : token.Lt) (l r : Toks) → IsMark true o l r → sees_angle l ≡ true
-lt_angle o l r i = and_from _ _ (mark_seen true {n = 2} {k = 1} o l r i) (and_from _ _ (ap not (lt_apart o l r i)) (ap not (lt_no_shift o l r i)))
-
-sep_turbofish : (c : Sep) (o : token.Lt) (l m r : Toks) → IsMark true c l m → IsMark true o m r → sees_turbofish l ≡ true
-unfolding sees_turbofish sees_mark after_one
-sep_turbofish c o l m r (is_mark (more_chars (last_char x))) (is_mark (last_char y)) = refl
-
-angle_seen : (c : Option Sep) (o : token.Lt) (l m r : Toks) → IsOptional (IsMark true) c l m → IsMark true o m r → sees_arguments AsWritten l ≡ true
-angle_seen c o l m r absent i = or_left _ _ (lt_angle o l r i)
-angle_seen c o l m r (present {a = s} j) i = or_right _ _ (sep_turbofish s o l m r j i)
-
-module _ {A E : Type 0} (part : Manner → Parts A E) (firsts : Firsts part) where
+module _ {A E : Type 0} (part : Manner → Parts A E) where
   -- arguments joined by commas
   abbrev Arguments : Bool → List (GenericArgument A E) → List token.Comma → Toks → Toks → Type 0
   Arguments = AreListed (λ (_ : Bool). (part clearly).argument) (IsMark true) Anywhere
 
-  listed_light : (first : Bool) (xs : List (GenericArgument A E)) (cs : List token.Comma) (l k : Toks) → Arguments first xs cs l k → NoMore l k
-  listed_light first xs cs l k (none_left h) = record { light = omega arith; short = omega arith }
-  listed_light first xs cs l k (last_value {x = x} v) =
-      let h = (firsts.argument x l k v).1 in
-      let w = h.lighter in
-      let s = h.shorter in
-      record { light = omega (arith, w); short = omega (arith, s) }
-  listed_light first xs cs l k (value_and_mark {x = x} {p = c} {xs = ys} {ps = ds} {m = m} {k = n} v i j) =
-      let h = (firsts.argument x l m v).1 in
-      let w = h.lighter in
-      let s = h.shorter in
-      let u = comma_light c m n i in
-      let t = mark_size true {n = 4} {k = 1} c m n i in
-      let q = listed_light false ys ds n k j in
-      let y = q.light in
-      let z = q.short in
-      record { light = omega (arith, w, u, y); short = omega (arith, s, t, z) }
-
-  pub angle_begins : (x : AngleBracketed A E) (l k : Toks) → IsAngle part clearly x l k → (sees_arguments AsWritten l ≡ true) × Less l k
-  angle_begins x l k (an_angle {c = c} {o = o} {xs = xs} {cs = cs} {g = g} {m = m} {n = n} {k = j} i d v e) =
-      let q = optional_sep_light c l m i in
-      let b = lt_less o m n d in
-      let w = listed_light true xs cs n j v in
-      let u = gt_less g j k e in
-      let q0 = q.light in
-      let q1 = q.short in
-      let b0 = b.lighter in
-      let b1 = b.shorter in
-      let w0 = w.light in
-      let w1 = w.short in
-      let u0 = u.lighter in
-      let u1 = u.shorter in
-      (angle_seen c o l m n i d, record { lighter = omega (arith, q0, b0, w0, u0); shorter = omega (arith, q1, b1, w1, u1) })
-
-  pub arguments_begin : (x : PathArguments A E) (l k : Toks) → IsArguments part clearly x l k → (sees_arguments AsWritten l ≡ true) × Less l k
-  arguments_begin x l k (some_arguments {x = y} i) = angle_begins y l k i
-
--- ---- the reads
-
 module _ {A E : Type 0} (r : Readers A E) (part : Manner → Parts A E) (limit : ℕ) (meets : Meets r part limit) where
   -- up to the `>`
-  listed_met : (xs : List (GenericArgument A E)) (cs : List token.Comma) (l k : Toks) (f : Option Span) (e : Span) (sc : Scope) → ahead (at l f e sc) < limit → Arguments part meets.firsts true xs cs l k →
+  listed_met : (xs : List (GenericArgument A E)) (cs : List token.Comma) (l k : Toks) (f : Option Span) (e : Span) (sc : Scope) → ahead (at l f e sc) < limit → Arguments part true xs cs l k →
       sees_gt k ≡ true → ends_constraint k ≡ true → Reads_to (terminated sees_gt (r an_argument) comma) (xs, cs) l k f e sc
   listed_met xs cs l k f e sc h i seen ends =
       listed_here (λ (_ : Bool). sees_gt) (λ (_ : Bool). r an_argument) (λ l. not (sees_gt l)) comma (λ (_ : Bool). (part clearly).argument) (IsMark true) Anywhere (λ l. ends_constraint l ≡ true) (λ l. ahead (at l none_here none sc) < limit) sc
@@ -139,7 +86,7 @@ module _ {A E : Type 0} (r : Readers A E) (part : Manner → Parts A E) (limit :
       none_here = None
 
   angled_met : (o : token.Lt) (xs : List (GenericArgument A E)) (cs : List token.Comma) (g : token.Gt) (l m n k : Toks) (f : Option Span) (e : Span) (sc : Scope) → ahead (at l f e sc) ≤ limit → IsMark true o l m →
-      Arguments part meets.firsts true xs cs m n → IsMark true g n k → Reads_to (heads.angled (r an_argument)) (o, (xs, cs), g) l k f e sc
+      Arguments part true xs cs m n → IsMark true g n k → Reads_to (heads.angled (r an_argument)) (o, (xs, cs), g) l k f e sc
   unfolding heads.angled
   angled_met o xs cs g l m n k f e sc h i v j =
       let a = mark_complete true {n = 2} {k = 1} refl (omega arith) o l m f e sc i in
@@ -149,7 +96,7 @@ module _ {A E : Type 0} (r : Readers A E) (part : Manner → Parts A E) (limit :
 
   -- after a `::` that was read, or none
   pub arguments_after_met : (c : Option Sep) (o : token.Lt) (xs : List (GenericArgument A E)) (cs : List token.Comma) (g : token.Gt) (l m n k : Toks) (f : Option Span) (e : Span) (sc : Scope) → ahead (at l f e sc) ≤ limit →
-      IsMark true o l m → Arguments part meets.firsts true xs cs m n → IsMark true g n k → Reads_to (arguments_after r c) (angle_of c o (xs, cs) g) l k f e sc
+      IsMark true o l m → Arguments part true xs cs m n → IsMark true g n k → Reads_to (arguments_after r c) (angle_of c o (xs, cs) g) l k f e sc
   arguments_after_met c o xs cs g l m n k f e sc h i v j = let u = angled_met o xs cs g l m n k f e sc h i v j in record { last = u.last; reads = link _ u.reads refl }
 
   optional_sep_met : (c : Option Sep) (o : token.Lt) (l m k : Toks) (f : Option Span) (e : Span) (sc : Scope) → IsOptional (IsMark true) c l m → IsMark true o m k → Reads_to (optional sees_sep sep) c l m f e sc

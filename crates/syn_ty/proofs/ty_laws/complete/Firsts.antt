@@ -1,8 +1,8 @@
 -- What each form of this layer begins with, and that fewer tokens are left after it, at every height of a tree.
 use Rattle.std.proofs.lemmas.Bool.{eqb-true}
 use Rattle.std.proofs.Common.{◌≡◌, ◌⊎◌, ◌==◌, ◌||◌, if◌then◌else◌, is_some, ℕ, zero, suc, Bool, true, false, List, [], Option, None, inl, inr, refl, sym, ap, subst}
-use Rattle.syn_ty.proofs.ty_laws.words.Tokens.{Lifetime, Lit, Parenthesis, Bracket, Ident, sees_lit, Reader, is_done, sees_group, sees_mark, last_char, is_mark, IsWord, is_word, IsLifetime, is_lifetime, Toks, done, word, mark, lit, group, enter, leave, punct}
-use Rattle.syn_ty.proofs.ty_laws.words.Paths.{Macro, PathOf, PathSegmentOf, AsWritten, IsCall, a_macro, Sep, ReadValues, SpelledValues}
+use Rattle.syn_ty.proofs.ty_laws.words.Tokens.{Lifetime, Lit, Parenthesis, Bracket, Ident, sees_lit, is_done, sees_group, sees_mark, last_char, is_mark, IsWord, is_word, IsLifetime, is_lifetime, Toks, done, word, mark, lit, group, enter, leave, punct}
+use Rattle.syn_ty.proofs.ty_laws.words.Paths.{Macro, PathOf, PathSegmentOf, AsWritten, IsCall, a_macro, Sep, SpelledValues}
 use Rattle.syn_ty.proofs.ty_laws.words.Forms.{ParamPlace, TypePlace, Plus, sees_arguments}
 use Rattle.syn_ty.proofs.ty_laws.words.Types.{LifetimeParamOf, IsGiven, given, IsLifetimeParam, a_lone_lifetime, a_lifetime_with_bounds, AreBoundsAfter, no_colon, after_colon, IsAnyType, any_type, IsTypeParam, a_type_param, IsConstParam, a_const_param, IsParam, a_lifetime_param, a_named_param, a_constant_param, a_bare_param, ArgumentPlace, between_angles, IsItemName, an_item, an_item_with_arguments, IsArgument, a_lifetime_argument, a_type_argument, a_const_argument, an_assoc_type, an_assoc_const, a_constraint, sees_const, is_segment_word, IsArguments, IsType, a_path_type, a_macro, a_bound_macro, an_object_with_dyn, an_object_without_dyn, an_impl_type, a_fn_type, a_ptr_type, a_reference_type, a_paren_type, a_tuple_type, a_slice_type, an_array_type, an_infer_type, a_never_type, a_verbatim_type, enclosed, bracketed, counted, no_element, some_elements, Manner, clearly, End, Parts, Relation, an_infer, a_never, turn, spelt_to, AngleBracketed, ConstParam, GenericArgument, GenericParam, PathArguments, TypeParam, TypeParamBound, TypeTree}
 use Rattle.token_core.specs.Lits.{next_lit, past_number}
@@ -16,7 +16,7 @@ use Rattle.syn_ty.proofs.ty_laws.complete.Named.{for_less}
 use Rattle.syn_ty.proofs.ty_laws.complete.FirstPaths.{PartBegins, PathStarts, by_word, by_sep, Starts, Worded, worded, angle_starts, any_path_starts, mark_other, mark_there, path_type, starts_on}
 use Rattle.syn_ty.proofs.ty_laws.complete.FirstTypes.{bang_starts, bare_starts, binder_starts, borrow_starts, dyn_starts, fn_starts, group_starts, impl_starts, infer_starts, pointer_starts, verbatim_starts}
 use Rattle.syn_ty.proofs.ty_laws.complete.Less.{same, some, no_no, no_less, less_no, less_less, word_less, mark_less, group_less, mark_no, word_takes, lifetime_takes, optional_no, listed_no, call_less}
-use Rattle.syn_ty.proofs.ty_laws.complete.Within.{Firsts, ItemBegins, Less, NoMore, SuppliedMeets, TypeBegins}
+use Rattle.syn_ty.proofs.ty_laws.complete.Within.{Firsts, ItemBegins, Less, NoMore, TypeBegins}
 
 -- ---- macro calls
 
@@ -155,10 +155,6 @@ module _ {A E : Type 0} {part : Manner → Parts A E} (s : Starts part) where
     param_starts p x l k (a_bare_param {a = a} {i = i} j h) = after_attrs a l (word i k) k j (word_item i k, word_less i k)
 
 -- ---- at every height
-
--- from what is known of the supplied reads
-pub supplied_begins : {A E : Type 0} (attrs : Reader (List A)) (values : ReadValues E) (part : Manner → Parts A E) → SuppliedMeets attrs values part → PartBegins part
-supplied_begins attrs values part h = record { attrs_begin = h.attrs_begin; attrs_light = h.attrs_light; argument_begins = h.argument_begins; default_less = h.default_less }
 
 module _ {A E : Type 0} (attrs : Bool → List A → Toks → Toks → Type 0) (values : SpelledValues E) where
   -- one turn

@@ -1,12 +1,12 @@
--- The bounds after `dyn` and `impl`, and those of a trait object without `dyn`, that a list spells clearly are what their reads answer; `dyn *` is held verbatim.
+-- The bounds after `dyn` and `impl`, and those of a trait object without `dyn`, by itself or from a lifetime on, that a list spells clearly are what their reads answer; `dyn *` is held verbatim.
 use Rattle.std.specs.List.{list_any}
 use Rattle.std.proofs.lemmas.Bool.{eqb-true}
 use Rattle.std.proofs.lemmas.Slice.Eq.{bytes_eq-Decides}
-use Rattle.std.proofs.Common.{◌≡◌, ◌||◌, ◌==◌, ℕ, ◌<◌, ◌≤◌, Bool, true, false, List, [], ◌∷◌, Option, Some, None, Ok, refl, sym, ◌∙◌, ap, subst, arith}
-use Rattle.syn_ty.proofs.ty_laws.words.Tokens.{Lifetime, Span, Ident, Punct, is_keyword, read_lifetime, sees_lifetime, AreListed, none_left, last_value, value_and_mark, Anywhere, Nowhere, AfterMark, Many, never, Item, Reader, ◌>>=◌, pure, here, is_text, sees_group, sees_mark, sees_word, IsMark, is_mark, last_char, more_chars, IsWord, is_word, is_lifetime, Scope, Stream, Bytes, Toks, done, word, mark, lit, group, enter, leave, TokenStream, punct}
+use Rattle.std.proofs.Common.{◌≡◌, ◌||◌, ◌==◌, ℕ, ◌<◌, ◌≤◌, Bool, true, false, List, [], Option, Some, None, Ok, refl, sym, ◌∙◌, ap, subst, arith}
+use Rattle.syn_ty.proofs.ty_laws.words.Tokens.{Lifetime, Span, Ident, Punct, is_keyword, read_lifetime, sees_lifetime, AreListed, none_left, last_value, value_and_mark, Nowhere, AfterMark, Many, Item, Reader, ◌>>=◌, pure, here, is_text, sees_group, sees_mark, sees_word, IsMark, is_mark, last_char, more_chars, IsWord, is_word, is_lifetime, Scope, Stream, Bytes, Toks, done, word, mark, lit, group, enter, leave, TokenStream, punct}
 use Rattle.syn_ty.proofs.ty_laws.words.Paths.{AsWritten}
 use Rattle.syn_ty.proofs.ty_laws.words.Forms.{BoundPlace, Object, Opaque, TypePlace, sees_bound, stops_bound, is_bare_word, ahead, allows_const, allows_plus, position}
-use Rattle.syn_ty.proofs.ty_laws.words.Types.{TraitBoundModifiers, AreModifiers, IsTrait, a_trait, a_trait_for, a_trait_asked, a_trait_bound, IsBound, a_lifetime_bound, a_bare_bound, a_bound_in_parens, a_capture_bound, AreBounds, named_bound, bound_step, a_binder, Sep, AreSigned, IsBoundPath, a_signed, signed_after, signed_last, with_parens, without_parens, is_segment_word, IsPath, IsSegment, a_path, a_word, a_word_with_arguments, ends_lone, IsBoundList, several_bounds, one_bound, AreObjectBounds, object_bounds, IsDyn, a_dyn, IsImpl, an_impl, IsObject, an_object, AreFurther, none_further, some_further, Manner, clearly, End, Holds, Parts, Readers, a_bound, is_trait, object_of, IsOptional, absent, present, BoundLifetimes, Path, PathSegment, TypeImplTrait, TypeParamBound, TypeTraitObject, trait_object_with}
+use Rattle.syn_ty.proofs.ty_laws.words.Types.{TraitBoundModifiers, AreModifiers, IsTrait, a_trait, a_trait_for, a_trait_asked, a_trait_bound, IsBound, a_lifetime_bound, a_bare_bound, a_bound_in_parens, a_capture_bound, AreBounds, bound_step, a_binder, Sep, AreSigned, IsBoundPath, a_signed, signed_after, signed_last, with_parens, without_parens, is_segment_word, IsPath, IsSegment, a_path, a_word, a_word_with_arguments, IsBoundList, several_bounds, one_bound, AreObjectBounds, object_bounds, IsDyn, a_dyn, IsImpl, an_impl, IsObject, an_object, Manner, clearly, End, Holds, Parts, Readers, a_bound, is_trait, IsOptional, absent, present, BoundLifetimes, Path, PathSegment, TypeImplTrait, TypeParamBound, TypeTraitObject, trait_object_with}
 use Rattle.token_core.specs.declared.error.ErrorKind.{ErrorKind}
 use Rattle.token_core.specs.declared.error.ErrorKind.TheVariants.{NoTraitInImpl, NoTraitInObject}
 use Rattle.token_core.specs.Tokens as token
@@ -18,7 +18,7 @@ use Rattle.token_core.proofs.WordSpells.{word_complete, word_seen}
 use Rattle.syn_ty.specs.declared.generics.TypeParamBoundOf.TheVariants as b
 use Rattle.syn_ty.specs.declared.ty.TypeOf.TheVariants as tree
 use Rattle.syn_ty.specs.ty.Reading as reading
-use Rattle.syn_ty.proofs.ty_laws.complete.BoundLists.{ends_as, IsFurther, nothing_further, further, FirstOf, first_of, plus_stopped, closed_stopped, bounds_met, one_bound_met, bounds_from_met, each_bound_met}
+use Rattle.syn_ty.proofs.ty_laws.complete.BoundLists.{IsFurther, nothing_further, FirstOf, first_of, plus_stopped, bounds_met, one_bound_met, bounds_from_met}
 use Rattle.syn_ty.proofs.ty_laws.complete.Capture.{since_met}
 use Rattle.syn_ty.proofs.ty_laws.complete.Leaves.{later}
 use Rattle.syn_ty.proofs.ty_laws.complete.Less.{mark_no, word_takes}
@@ -230,44 +230,6 @@ module _ {A E : Type 0} (r : Readers A E) (part : Manner → Parts A E) (limit :
         let c = first_of part Object AfterMark (stops_bound false) true d xs ps l k (λ z. z) refl i (plus_stopped part Object true d k o) in
         let y = lived c.end c.bound l c.middle f e sc h c.spelt c.fits g in
         lived_met c.bound (xs, ps) l c.middle k f e sc y (after_bound c.end c.bound Object l c.middle f f e y.last sc c.spelt h) c.rest n
-
-  -- ---- without `dyn`, after a path that was read: it is the first bound
-
-  abbrev For : Type 0
-  For = Option (BoundLifetimes A E)
-
-  abbrev pub of_path : For → Path A E → Bound
-  of_path o p = b.Trait (named_bound o None p)
-
-  -- what follows a path
-  abbrev pub After : Bool → Bound → Bounds → Toks → Toks → Type 0
-  After = IsFurther part Object AfterMark (stops_bound false)
-
-  -- it stands alone
-  pub path_alone_after : (plus : Bool) (place : TypePlace) → allows_plus place ≡ plus → (x : Bound) (k : Toks) → Fits (ends_lone place) k → After plus x (x ∷ [], []) k k
-  path_alone_after true place a x k o = nothing_further (o.no_plus a)
-  path_alone_after false place a x k o = nothing_further refl
-
-  -- with plus, a `+` stands after it, and perhaps further bounds
-  pub path_plus_after : (plus : Bool) (place : TypePlace) → allows_plus place ≡ plus → allows_plus place ≡ true → (d : End) (x : Bound) (c : token.Plus) (xs : List Bound) (ps : List token.Plus) (l m k : Toks) →
-      IsMark true c l m → AreBounds part clearly Object Anywhere false d xs ps m k → Fits d k → After plus x (x ∷ xs, c ∷ ps) l k
-  path_plus_after plus place a h d x c xs ps l m k i j o = further (sym a ∙ h) i (ends_as part Object Anywhere AfterMark (λ z. z) false d xs ps m k refl j) (plus_stopped part Object false d k o)
-
-  pub path_object_met : (plus : Bool) (o : For) (p : Path A E) (v : Bounds) (l k : Toks) (f : Option Span) (e : Span) (sc : Scope) → ahead (at l f e sc) ≤ limit → After plus (of_path o p) v l k →
-      Reads_to (reading.path_object r plus o p) (object_of v) l k f e sc
-  path_object_met plus o p v l k f e sc h i = let q = bounds_from_met r part limit meets Object plus (of_path o p) v l k f e sc h i in record { last = q.last; reads = link _ q.reads refl }
-
-  -- ---- after a first bound that was read, each `+` with a bound
-
-  each_after : (d : End) (x : Bound) (xs : List Bound) (ps : List token.Plus) (l k : Toks) → AreFurther part clearly d xs ps l k → Fits d k → IsFurther part Object Nowhere never true x (x ∷ xs, ps) l k
-  each_after d x xs ps l k none_further o = nothing_further (o.no_plus refl)
-  each_after d x xs ps l k (some_further i j) o = further refl i j (closed_stopped part Object false d k o)
-
-  pub each_object_met : (x : Bound) (d : End) (xs : List Bound) (ps : List token.Plus) (l k : Toks) (f : Option Span) (e : Span) (sc : Scope) → ahead (at l f e sc) ≤ limit → AreFurther part clearly d xs ps l k → Fits d k →
-      Reads_to (reading.each_object_from r x) (object_of (x ∷ xs, ps)) l k f e sc
-  each_object_met x d xs ps l k f e sc h i o =
-      let q = each_bound_met r part limit meets Object x (x ∷ xs, ps) l k f e sc h (each_after d x xs ps l k i o) in
-      record { last = q.last; reads = link _ q.reads refl }
 
 -- ---- no bound begins with `dyn`
 

@@ -1,9 +1,9 @@
 -- Parameters, each in its place, and binders print their normal forms clearly, where what stands within them does.
-use Rattle.std.proofs.Common.{◌≡◌, Bool, true, false, List, [], ◌++◌, Option, Some, None, option_map, refl, sym, ◌∙◌, ap, subst, append_assoc}
+use Rattle.std.proofs.Common.{◌≡◌, Bool, true, false, List, [], ◌++◌, Option, Some, None, option_map, refl, ◌∙◌, ap, subst}
 use Rattle.syn_ty.proofs.ty_laws.words.Tokens.{Lifetime, Ident, AreListed, Anywhere, joined, Many, Print, is_ident, is_text, IsMark, IsWord, IsLifetime, Toks, word, row}
 use Rattle.syn_ty.proofs.ty_laws.words.Paths.{NormalValues, Values}
 use Rattle.syn_ty.proofs.ty_laws.words.Forms.{Parameter, ParamPlace, Plus}
-use Rattle.syn_ty.proofs.ty_laws.words.Types.{BoundLifetimesOf, LifetimeParamOf, AreBounds, no_bounds, IsFor, colon, many, IsGiven, given, IsLifetimeParam, a_lone_lifetime, a_lifetime_with_bounds, AreBoundsAfter, no_colon, after_colon, IsAnyType, any_type, IsTypeParam, a_type_param, IsConstParam, a_const_param, IsParam, a_lifetime_param, a_named_param, a_constant_param, a_bare_param, bound_lifetimes_of, const_param_of, lifetime_param_of, type_param_of, IsBinder, a_binder, Manner, plainly, clearly, End, Parts, Relation, IsOptional, absent, present, BoundLifetimes, ConstParam, GenericParam, TypeParam, TypeParamBound, TypeTree}
+use Rattle.syn_ty.proofs.ty_laws.words.Types.{LifetimeParamOf, AreBounds, no_bounds, IsFor, colon, many, IsGiven, given, IsLifetimeParam, a_lone_lifetime, a_lifetime_with_bounds, AreBoundsAfter, no_colon, after_colon, IsAnyType, any_type, IsTypeParam, a_type_param, IsConstParam, a_const_param, IsParam, a_lifetime_param, a_named_param, a_constant_param, a_bare_param, bound_lifetimes_of, const_param_of, lifetime_param_of, type_param_of, IsBinder, a_binder, Manner, plainly, clearly, End, Parts, Relation, IsOptional, absent, present, BoundLifetimes, ConstParam, GenericParam, TypeParam, TypeParamBound, TypeTree}
 use Rattle.token_core.specs.Lifetimes as lifetimes
 use Rattle.token_core.specs.Prints as p
 use Rattle.token_core.specs.Tokens as token
@@ -186,15 +186,6 @@ module _ {A E : Type 0} (na : List A → List A) (ne : NormalValues E) (pa : Lis
 
 -- ---- binders
 
--- piece by piece, before what follows
-pub binder_pieces : {G : Type 0} (f : G → Print) (o : Option (BoundLifetimesOf G)) (q : Print) → shown.binder_start o ++ (shown.binder_joined f o ++ (shown.binder_end o ++ q)) ≡ shown.binder_by f o ++ q
-binder_pieces f None q = refl
-binder_pieces f (Some x) q =
-    let all = shown.binder_joined f (Some x) in
-    let first = p.word x.for_token ++ p.mark x.lt_token in
-    ap (λ z. first ++ z) (sym (append_assoc all (p.mark x.gt_token) q)) ∙ sym (append_assoc first (all ++ p.mark x.gt_token) q)
-    ∙ ap (λ z. z ++ q) (append_assoc (p.word x.for_token) (p.mark x.lt_token) (all ++ p.mark x.gt_token))
-
 module _ {A E : Type 0} (P Q : Relation (GenericParam A E)) (np : GenericParam A E → GenericParam A E) (pp : GenericParam A E → Print)
     (again : (x : GenericParam A E) (l r : Toks) → P x l r → AgainFront Q np pp x l r) where
   abbrev Binder : Type 0
@@ -221,19 +212,9 @@ module _ {A E : Type 0} (P Q : Relation (GenericParam A E)) (np : GenericParam A
       made_front _ _ _ (IsBinder true Q) normal_binder (shown.bound_lifetimes_by pp) binder_of (λ z. refl) (λ z. refl)
       (λ z b g h. a_binder h.1 h.2.1 h.2.2.1 h.2.2.2) (f, (o, ((xs, cs), c))) l r a
 
-  pub binder_by_again : (o : Option Binder) (l r : Toks) → IsOptional (IsBinder false P) o l r → AgainFront (IsOptional (IsBinder true Q)) (shapes.binder_by np) (shown.binder_by pp) o l r
-  binder_by_again o l r absent = record { spelt = λ k. absent; visible = λ k u v. v; seen = λ u. u; stays = refl; same = refl }
-  binder_by_again o l r (present {a = x} i) =
-      let h = binder_again x l r i in
-      record { spelt = λ k. present (h.spelt k); visible = λ k u v. h.visible k u v; seen = λ u. h.seen u; stays = ap (λ (z : Binder). Some z) h.stays; same = h.same }
-
 module _ {A E : Type 0} (na : List A → List A) (ne : NormalValues E) (pa : List A → Print) (pe : Values E) (part : Manner → Parts A E) (held : Again na ne pa pe part) where
   pub for_again : (x : BoundLifetimes A E) (l r : Toks) → IsFor part plainly x l r → AgainFront (IsFor part clearly) (normal.bound_lifetimes na ne) (printing.bound_lifetimes pa pe) x l r
   for_again = binder_again ((part plainly).param params.Binder) ((part clearly).param params.Binder) (normal.param na ne) (printing.param pa pe) (held.param params.Binder)
-
-  -- as a part of another form, and by itself
-  pub for_by_again : (o : Option (BoundLifetimes A E)) (l r : Toks) → IsOptional (IsFor part plainly) o l r → AgainFront (IsOptional (IsFor part clearly)) (shapes.binder_by (normal.param na ne)) (shown.binder_by (printing.param pa pe)) o l r
-  for_by_again = binder_by_again ((part plainly).param params.Binder) ((part clearly).param params.Binder) (normal.param na ne) (printing.param pa pe) (held.param params.Binder)
 
   pub optional_for_again : (o : Option (BoundLifetimes A E)) (l r : Toks) → IsOptional (IsFor part plainly) o l r →
       AgainFront (IsOptional (IsFor part clearly)) (option_map (normal.bound_lifetimes na ne)) (p.optional (printing.bound_lifetimes pa pe)) o l r

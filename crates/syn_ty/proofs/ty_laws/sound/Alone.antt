@@ -3,7 +3,7 @@ use Rattle.std.proofs.Common.{◌≡◌, ℕ, suc, ◌<◌, ◌≤◌, Bool, fal
 use Rattle.syn_ty.proofs.ty_laws.words.Tokens.{DelimSpan, sees_invisible, Reader, closing, leaves, Visible, Stream, Toks}
 use Rattle.syn_ty.proofs.ty_laws.words.Paths.{PathStyle, AsWritten, ReadValues, SpelledValues}
 use Rattle.syn_ty.proofs.ty_laws.words.Forms.{BoundPlace, Object, Opaque, ParamPlace, Binder, TypePlace, Plus, NoPlus, in_invisible, sees_name, ahead, allows_plus}
-use Rattle.syn_ty.proofs.ty_laws.words.Types.{IsBound, IsFor, IsTraitBound, IsConstParam, IsParam, IsTypeParam, alone, between_angles, IsArgument, IsParens, IsReturn, IsAngle, IsArguments, IsPath, IsSegment, IsBorrow, IsBracketed, IsCounted, IsEnclosed, IsPointer, IsTupled, IsType, IsFnPtr, IsNamedArg, reads_below, IsImpl, IsObject, Manner, loosely, Parts, Readers, a_bound, a_param, a_type, an_argument, some_arguments, IsOptional, IsPathAlone, spelt_to, AngleBracketed, BoundLifetimes, ConstParam, GenericArgument, GenericParam, NamedArg, Parenthesized, Path, PathArguments, PathSegment, QSelf, ReturnType, TraitBound, TypeArray, TypeFnPtr, TypeGroup, TypeImplTrait, TypeParam, TypeParamBound, TypeParen, TypePath, TypePtr, TypeReference, TypeSlice, TypeTraitObject, TypeTree, TypeTuple}
+use Rattle.syn_ty.proofs.ty_laws.words.Types.{IsBound, IsFor, IsTraitBound, IsConstParam, IsParam, IsTypeParam, alone, between_angles, IsArgument, IsParens, IsReturn, IsAngle, IsPath, IsSegment, IsBorrow, IsBracketed, IsCounted, IsEnclosed, IsPointer, IsTupled, IsType, IsFnPtr, IsNamedArg, reads_below, IsImpl, IsObject, Manner, loosely, Parts, Readers, a_bound, a_param, a_type, an_argument, IsOptional, IsPathAlone, spelt_to, AngleBracketed, BoundLifetimes, ConstParam, GenericArgument, GenericParam, NamedArg, Parenthesized, Path, PathSegment, QSelf, ReturnType, TraitBound, TypeArray, TypeFnPtr, TypeGroup, TypeImplTrait, TypeParam, TypeParamBound, TypeParen, TypePath, TypePtr, TypeReference, TypeSlice, TypeTraitObject, TypeTree, TypeTuple}
 use Rattle.token_core.specs.Groups.{invisible_at, is_there, next_invisible, open_invisible}
 use Rattle.token_core.proofs.Took.{mapped}
 use Rattle.token_core.proofs.Turns.{chain}
@@ -126,12 +126,6 @@ module _ {A E : Type 0} {attrs : Reader (List A)} {values : ReadValues E} {shown
   pub argument_alone : (s t : Stream) (x : GenericArgument A E) → Visible s.rest → knot.argument attrs values s ≡ Ok (x, t) → leaves t ≡ None → Spells shown spelt (λ part how. IsArgument (IsType part how Plus) part how alone) loosely x s.rest
   argument_alone s t x v e c =
       (enough s, alone_turned shown spelt (twice (ahead s)) attrs values (within s) (here s) (given (ahead s)) s t x v (subst (λ z. z ≡ Ok (x, t)) (turn attrs values an_argument s) e) c)
-
-  pub arguments_took : (s t : Stream) (x : PathArguments A E) → Visible s.rest → knot.arguments attrs values s ≡ Ok (x, t) → TookOne (Front shown spelt IsArguments) s t x
-  arguments_took s t x v e =
-      let known = supplied attrs values shown spelt g in
-      front shown spelt IsArguments (enough s) s t x
-      ((at_told attrs values shown spelt known (suc (ahead s))).arguments s t x v (by_turns attrs values shown spelt known (suc (ahead s)) some_arguments s t x (omega arith) e))
 
   -- ---- paths
 

@@ -17,10 +17,6 @@ use Rattle.syn_forms.proofs.along_laws.Kit.{further}
 pub captured_or_along : {other : Reader CapturedParam} → Along other → Along (reading.captured_or other)
 captured_or_along h = search (further, h)
 
-pub captured_along : Along reading.captured
-unfolding reading.captured
-captured_along = search (further, captured_or_along)
-
 pub listed_captured_along : Along reading.listed_captured
 unfolding reading.listed_captured
 listed_captured_along = search (further, captured_or_along)
@@ -81,24 +77,12 @@ module _ {A : Type 0} (attrs : Reader (List A)) where
   pub lifetime_after_along : (a : List A) → Along (reading.lifetime_after attrs a)
   lifetime_after_along = search (further, forms.lifetime_parts_along)
 
-  pub lifetime_param_along : Along attrs → Along (reading.lifetime_param attrs)
-  unfolding reading.lifetime_param
-  lifetime_param_along g = search (further, g, lifetime_after_along)
-
 module _ {A E : Type 0} (attrs : Reader (List A)) (values : ReadValues E) {r : Readers A E} (g : Along attrs) (value : Along values.const_argument) (al : (q : Point) → Along (r q)) where
   pub type_after_along : (a : List A) → Along (reading.type_after attrs values r a)
   type_after_along = search (further, forms.type_parts_along, al)
 
-  pub type_param_along : Along (reading.type_param attrs values r)
-  unfolding reading.type_param
-  type_param_along = search (further, g, type_after_along)
-
   pub const_after_along : (a : List A) → Along (reading.const_after attrs values r a)
   const_after_along = search (further, forms.const_parts_along, al, value)
-
-  pub const_param_along : Along (reading.const_param attrs values r)
-  unfolding reading.const_param
-  const_param_along = search (further, g, const_after_along)
 
   pub in_binder_along : (a : List A) → Along (reading.in_binder attrs values r a)
   unfolding reading.in_binder

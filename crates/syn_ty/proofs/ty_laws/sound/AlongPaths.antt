@@ -18,16 +18,9 @@ module _ {A E : Type 0} {r : Readers A E} (al : (q : Point) → Along (r q)) whe
   unfolding reading.angle_bracketed
   angle_bracketed_along = search (further, arguments_after_along)
 
-  pub turbofish_along : Along (reading.turbofish r)
-  unfolding reading.turbofish
-  turbofish_along = search (further, arguments_after_along)
-
   pub arguments_step_along : Along (reading.arguments_step r)
   unfolding reading.arguments_step
   arguments_step_along = search (further, angle_bracketed_along)
-
-  pub segment_along : (style : PathStyle) → Along (reading.segment r style)
-  segment_along = search (further, forms.segment_along, al)
 
   pub path_along : (style : PathStyle) → Along (reading.path r style)
   path_along = search (further, forms.path_along, al)
@@ -37,10 +30,6 @@ module _ {A E : Type 0} {r : Readers A E} (al : (q : Point) → Along (r q)) whe
 
   pub maybe_qualified_along : (style : PathStyle) → Along (reading.maybe_qualified r style)
   maybe_qualified_along = search (further, forms.maybe_qualified_along, al)
-
-  pub path_type_along : Along (reading.path_type r)
-  unfolding reading.path_type
-  path_type_along = search (further, maybe_qualified_along)
 
   pub parenthesized_along : Along (reading.parenthesized r)
   unfolding reading.parenthesized

@@ -2,13 +2,13 @@
 use Rattle.std.proofs.Common.{Bool, List, Option, Some, None}
 use Rattle.syn_ty.proofs.ty_laws.words.Tokens.{Span, GroupToken, Paren, Many, Item, Reader}
 use Rattle.syn_ty.proofs.ty_laws.words.Paths.{ReadValues, Along}
-use Rattle.syn_ty.proofs.ty_laws.words.Forms.{ParenContent, Object, Opaque, TypePlace, Plus, NoPlus}
+use Rattle.syn_ty.proofs.ty_laws.words.Forms.{ParenContent, Object, Opaque, TypePlace, NoPlus}
 use Rattle.syn_ty.proofs.ty_laws.words.Types.{Point, Readers, a_bound, a_type, some_arguments, BoundLifetimes, Path, QSelf, TraitBound, TypeParamBound, TypePath, TypeTree}
 use Rattle.syn_forms.specs.declared.groups.ParenContent.TheVariants as held
 use Rattle.syn_ty.specs.ty.Reading as reading
 use Rattle.token_core.specs.declared.error.ErrorKind.{ErrorKind}
 use Rattle.token_core.specs.Tokens as token
-use Rattle.syn_ty.proofs.ty_laws.sound.AlongBounds.{binder_along, optional_binder_along, trait_in_along}
+use Rattle.syn_ty.proofs.ty_laws.sound.AlongBounds.{binder_along}
 use Rattle.syn_forms.proofs.along_laws.Forms as forms
 use Rattle.syn_ty.proofs.ty_laws.sound.AlongPaths.{maybe_qualified_along, path_along, rest_along}
 use Rattle.syn_path.proofs.Along.{lifetime, opening}
@@ -49,18 +49,6 @@ module _ {A E : Type 0} where
 -- ---- forms
 
 module _ {A E : Type 0} {r : Readers A E} (al : (q : Point) → Along (r q)) where
-  pub paren_along : Along (reading.paren r)
-  unfolding reading.paren
-  paren_along = search further
-
-  pub slice_along : Along (reading.slice r)
-  unfolding reading.slice
-  slice_along = search further
-
-  pub tuple_along : Along (reading.tuple r)
-  unfolding reading.tuple
-  tuple_along = search further
-
   pub ptr_along : Along (reading.ptr r)
   unfolding reading.ptr
   ptr_along = search (further, forms.ptr_along, al (a_type NoPlus))
@@ -68,10 +56,6 @@ module _ {A E : Type 0} {r : Readers A E} (al : (q : Point) → Along (r q)) whe
   pub reference_along : Along (reading.reference r)
   unfolding reading.reference
   reference_along = search (further, forms.reference_along, al (a_type NoPlus))
-
-  pub group_along : Along (reading.group r)
-  unfolding reading.group
-  group_along = search further
 
   pub return_type_along : (place : TypePlace) → Along (reading.return_type r place)
   unfolding reading.return_type
@@ -86,10 +70,6 @@ module _ {A E : Type 0} {r : Readers A E} (al : (q : Point) → Along (r q)) whe
   pub lifetime_object_along : Along (reading.lifetime_object r)
   unfolding reading.lifetime_object
   lifetime_object_along = search (further, object_bounds_along)
-
-  pub trait_object_along : {first : Reader (TypeParamBound A E)} → Along first → (plus : Bool) → Along (reading.trait_object r first plus)
-  unfolding reading.trait_object
-  trait_object_along h plus = search (further, optional_dyn_along, h, object_bounds_along)
 
   pub dyn_type_along : (plus : Bool) → Along (reading.dyn_type r plus)
   unfolding reading.dyn_type
@@ -108,10 +88,6 @@ module _ {A E : Type 0} {r : Readers A E} (al : (q : Point) → Along (r q)) whe
   impl_trait_along = search (further, impl_bounds_along)
 
   -- ---- parentheses
-
-  pub paren_content_along : Along (reading.paren_content r)
-  unfolding reading.paren_content
-  paren_content_along = search (further, forms.type_paren_content_along, al (a_type Plus), lifetime_object_along, trait_in_along al)
 
   pub each_object_from_along : (x : TypeParamBound A E) → Along (reading.each_object_from r x)
   each_object_from_along = search (further, forms.each_bound_from_along, al (a_bound Object))
@@ -183,17 +159,9 @@ module _ {A E : Type 0} {r : Readers A E} (al : (q : Point) → Along (r q)) whe
 -- ---- arrays, and an argument by itself
 
 module _ {A E : Type 0} (values : ReadValues E) (r : Readers A E) where
-  pub array_along : Along (reading.array values r)
-  unfolding reading.array
-  array_along = search further
-
   pub slice_or_array_along : Along (reading.slice_or_array values r)
   unfolding reading.slice_or_array
   slice_or_array_along = search further
-
-pub named_arg_along : {A E : Type 0} {attrs : Reader (List A)} {type : Reader (TypeTree A E)} → Along attrs → Along type → Along (reading.named_arg attrs type)
-unfolding reading.named_arg
-named_arg_along g h = search (further, g, forms.plain_argument_along, h)
 
 -- ---- a type
 
@@ -209,10 +177,6 @@ module _ {A E : Type 0} (attrs : Reader (List A)) (values : ReadValues E) {r : R
   pub fn_ptr_after_along : (l : Option (BoundLifetimes A E)) → Along (reading.fn_ptr_after attrs values r l)
   unfolding reading.fn_ptr_after
   fn_ptr_after_along = search (further, fn_ptr_parts_along)
-
-  pub fn_ptr_along : Along (reading.fn_ptr attrs values r)
-  unfolding reading.fn_ptr
-  fn_ptr_along = search (further, optional_binder_along al, fn_ptr_after_along)
 
   pub named_type_along : (place : TypePlace) (from : List Item) (l : Option (BoundLifetimes A E)) → Along (reading.named_type attrs values r place from l)
   unfolding reading.named_type

@@ -1,8 +1,8 @@
 -- Where the read of a form answers, the answer spells what was taken by the rules of the whole grammar; where it is open no `+` follows, and where it ends in a plus no word: over the same law of what it holds.
-use Rattle.std.proofs.Common.{◌≡◌, Bool, true, false, List, Option, Some, None, Ok, inl, inr, refl, sym, ◌∙◌, ap, subst, arith}
-use Rattle.syn_ty.proofs.ty_laws.words.Tokens.{Lifetime, Parenthesis, Bracket, sees_lifetime, read_lifetime, AreListed, none_left, last_value, value_and_mark, Reader, in_group, leaves, optional, Visible, IsMark, IsWord, IsLifetime, Stream, Toks, done}
-use Rattle.syn_ty.proofs.ty_laws.words.Forms.{BoundPlace, TypePlace, Plus, NoPlus, PointerMutability, IsMutability}
-use Rattle.syn_ty.proofs.ty_laws.words.Types.{AreBounds, no_bounds, last_plus, last_bound, bound_and_plus, return_of, IsReturn, no_output, an_output, IsPointer, a_pointer, IsBorrow, a_borrow, a_mutable_borrow, a_lifetime_borrow, IsEnclosed, enclosed, IsBracketed, bracketed, Manner, loosely, End, closed, going_on, Parts, Readers, a_type, Relation, IsOptional, absent, present, ReturnType, TypeParamBound, TypeParen, TypePtr, TypeReference, TypeSlice, TypeTree, And, Mut, Star, paren_of, ptr_of, reference_of, slice_of}
+use Rattle.std.proofs.Common.{◌≡◌, Bool, true, false, Option, Some, None, Ok, inl, inr, refl, sym, ◌∙◌, ap, subst, arith}
+use Rattle.syn_ty.proofs.ty_laws.words.Tokens.{Lifetime, Parenthesis, Bracket, sees_lifetime, read_lifetime, Reader, in_group, leaves, optional, Visible, IsMark, IsWord, IsLifetime, Stream, Toks, done}
+use Rattle.syn_ty.proofs.ty_laws.words.Forms.{TypePlace, Plus, NoPlus, PointerMutability, IsMutability}
+use Rattle.syn_ty.proofs.ty_laws.words.Types.{return_of, IsReturn, no_output, an_output, IsPointer, a_pointer, IsBorrow, a_borrow, a_mutable_borrow, a_lifetime_borrow, IsEnclosed, enclosed, IsBracketed, bracketed, Manner, loosely, End, closed, Parts, Readers, a_type, Relation, IsOptional, absent, present, ReturnType, TypeParen, TypePtr, TypeReference, TypeSlice, TypeTree, And, Mut, Star, paren_of, ptr_of, reference_of, slice_of}
 use Rattle.token_core.specs.Groups as groups
 use Rattle.token_core.specs.Lifetimes.{read_optional_lifetime}
 use Rattle.token_core.specs.Marks as marks
@@ -17,7 +17,6 @@ use Rattle.syn_forms.specs.tokens.Reading as tokens
 use Rattle.syn_forms.specs.tokens.Reading.{sees_named, mutable}
 use Rattle.syn_forms.proofs.tokens_laws.Fronts.{took_as, took_whole}
 use Rattle.syn_forms.proofs.tokens_laws.Mutability.{mutability_sound, visible_mutability}
-use Rattle.syn_ty.specs.ty.Parts.{after_plus}
 pub use Rattle.syn_ty.specs.ty.Parts.{Told}
 use Rattle.syn_ty.specs.ty.Reading as reading
 use Rattle.syn_ty.proofs.ty_laws.sound.Leaves.{optional_sound, named_sound, life_sound, IsHeld, held_sound, twice}
@@ -39,22 +38,6 @@ both false h k = cc h
 -- a bound that a `+` follows is not open
 pub before_plus : (e : End) (p : token.Plus) (m k : Toks) → (e.is_open ≡ true → token.sees_plus m ≡ false) → IsMark false p m k → e.is_open ≡ false
 before_plus e p m k o i = not_true e.is_open (λ h. both (token.sees_plus m) (mark_seen false {n = 20} {k = 1} p m k i) (o h))
-
-module _ {A E : Type 0} (part : Manner → Parts A E) (place : BoundPlace) (Ends : Bool → Type 0) where
-  abbrev Bounds : Bool → End → List (TypeParamBound A E) → List token.Plus → Toks → Toks → Type 0
-  Bounds = AreBounds part loosely place Ends
-
-  abbrev Listed : Bool → List (TypeParamBound A E) → List token.Plus → Toks → Toks → Type 0
-  Listed = AreListed (λ (_ : Bool). Told ((part loosely).bound place)) (IsMark false) Ends
-
-  -- bounds that were read one by one, with a `+` between each two, are bounds joined by `+`
-  pub bounds_told : (first : Bool) (xs : List (TypeParamBound A E)) (ps : List token.Plus) (l r : Toks) → Listed first xs ps l r → (e : End) × Bounds first e xs ps l r
-  bounds_told true xs ps l r (none_left h) = (closed, no_bounds h)
-  bounds_told false xs ps l r (none_left h) = (after_plus, last_plus h)
-  bounds_told first xs ps l r (last_value i) = (going_on i.0, last_bound i.1)
-  bounds_told first xs ps l r (value_and_mark {p = p} {m = m} {k = k} i j rest) =
-      let q = bounds_told false _ _ k r rest in
-      (q.0, bound_and_plus i.1 (before_plus i.0 p m k i.2 j) j q.1)
 
 -- ---- an optional part that is absent was not seen
 

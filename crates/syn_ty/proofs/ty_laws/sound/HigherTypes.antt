@@ -2,7 +2,7 @@
 use Rattle.std.proofs.Common.{Bool, List, Option}
 use Rattle.syn_ty.proofs.ty_laws.words.Tokens.{Many, Toks}
 use Rattle.syn_ty.proofs.ty_laws.words.Forms.{BoundPlace, TypePlace}
-use Rattle.syn_ty.proofs.ty_laws.words.Types.{FnPtrVariadicOf, IsFor, IsPointer, a_pointer, IsBorrow, a_borrow, a_mutable_borrow, a_lifetime_borrow, IsEnclosed, enclosed, IsBracketed, bracketed, IsCounted, counted, IsElement, an_element, IsTupled, no_element, some_elements, IsVerbatimType, an_unsafe_binder, a_dyn_star, a_builtin, IsType, a_path_type, a_macro, a_bound_macro, an_object_with_dyn, an_object_without_dyn, an_impl_type, a_fn_type, a_ptr_type, a_reference_type, a_paren_type, a_tuple_type, a_slice_type, an_array_type, an_infer_type, a_never_type, a_verbatim_type, IsMutSelf, mut_self, mut_self_typed, named_mut_self, IsNamedArg, a_named_argument, a_verbatim_argument, IsVariadic, dots, named_dots, AreInputs, plain_inputs, variadic_inputs, IsFnPtr, a_fn_ptr, IsBoundList, several_bounds, one_bound, AreObjectBounds, object_bounds, IsDyn, a_dyn, IsObject, an_object, IsImpl, an_impl, IsFirst, a_first, a_first_for, IsAsked, an_asked, AreFurther, none_further, some_further, AreBareBounds, path_alone, path_and_plus, held_and_plus, asked_first, asked_in_two, lifetime_first, Manner, End, Parts, IsOptional, BoundLifetimes, NamedArg, Path, TypeArray, TypeFnPtr, TypeImplTrait, TypeParamBound, TypeParen, TypePtr, TypeReference, TypeSlice, TypeTraitObject, TypeTree, TypeTuple}
+use Rattle.syn_ty.proofs.ty_laws.words.Types.{FnPtrVariadicOf, IsFor, IsPointer, a_pointer, IsBorrow, a_borrow, a_mutable_borrow, a_lifetime_borrow, IsEnclosed, enclosed, IsBracketed, bracketed, IsCounted, counted, IsElement, an_element, IsTupled, no_element, some_elements, IsVerbatimType, an_unsafe_binder, a_dyn_star, a_builtin, IsType, a_path_type, a_macro, a_bound_macro, an_object_with_dyn, an_object_without_dyn, an_impl_type, a_fn_type, a_ptr_type, a_reference_type, a_paren_type, a_tuple_type, a_slice_type, an_array_type, an_infer_type, a_never_type, a_verbatim_type, IsMutSelf, mut_self, mut_self_typed, named_mut_self, IsNamedArg, a_named_argument, a_verbatim_argument, IsVariadic, dots, named_dots, AreInputs, plain_inputs, variadic_inputs, IsFnPtr, a_fn_ptr, IsBoundList, several_bounds, one_bound, AreObjectBounds, object_bounds, IsDyn, a_dyn, IsImpl, an_impl, IsFirst, a_first, a_first_for, IsAsked, an_asked, AreFurther, none_further, some_further, AreBareBounds, path_alone, path_and_plus, held_and_plus, asked_first, asked_in_two, lifetime_first, Manner, End, Parts, IsOptional, BoundLifetimes, NamedArg, Path, TypeArray, TypeFnPtr, TypeImplTrait, TypeParamBound, TypeParen, TypePtr, TypeReference, TypeSlice, TypeTraitObject, TypeTree, TypeTuple}
 use Rattle.token_core.specs.Tokens as token
 use Rattle.syn_ty.specs.ty.Functions.{an_argument}
 use Rattle.syn_ty.proofs.ty_laws.sound.HigherBounds.{for_up, bounds_up}
@@ -25,9 +25,6 @@ module _ {A E : Type 0} {part over : Manner → Parts A E} (up : (how : Manner) 
 
   pub dyn_up : {how : Manner} {place : TypePlace} {e : End} {x : TypeTraitObject A E} {l r : Toks} → IsDyn part how place e x l r → IsDyn over how place e x l r
   dyn_up (a_dyn w i) = a_dyn w (object_bounds_up i)
-
-  pub object_up : {how : Manner} {place : TypePlace} {x : TypeTraitObject A E} {l r : Toks} → IsObject part how place x l r → IsObject over how place x l r
-  object_up (an_object w i) = an_object w (object_bounds_up i)
 
   pub impl_up : {how : Manner} {place : TypePlace} {e : End} {x : TypeImplTrait A E} {l r : Toks} → IsImpl part how place e x l r → IsImpl over how place e x l r
   impl_up (an_impl w i t) = an_impl w (bound_list_up i) t

@@ -6,8 +6,7 @@ use Rattle.token_core.specs.declared.tree.TokenTree.TheOpen as o
 use Rattle.token_core.specs.Seen.{saw_leave, saw_delimiter}
 use Rattle.token_core.specs.Entries.{saw, saw_layer, flat_tree, flat_stream, all_of}
 use Rattle.token_core.specs.Trees.{delimiter_of, span_of, content_of}
-use denote.Ref.{Bor}
-use Rattle.token_core.specs.declared.tree.TokenTree.{TokenTree, out-TokenTree}
+use Rattle.token_core.specs.declared.tree.TokenTree.{out-TokenTree}
 use Rattle.token_core.specs.declared.tree.TokenTree.TheVariants.{outs-Ident, outs-Punct, outs-Literal, outs-Group}
 use Rattle.token_core.proofs.Flats.{flat_stream_is, flat_tree_is, flat_group_is, tree_flat}
 use Rattle.token_core.proofs.Fills.{all_of_more, group_filled, group_count}

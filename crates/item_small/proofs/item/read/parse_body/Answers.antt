@@ -3,7 +3,7 @@ use Rattle.token_core.proofs.Steps.{chosen}
 use Rattle.token_core.proofs.Suffixes.{follows_self}
 use Rattle.item_small.specs.item.Promises as promises
 use Rattle.item_small.specs.item.Reading.{body}
-use Rattle.item_small.proofs.front_laws.Refused.{refused_front}
+use Rattle.token_core.proofs.fronts_laws.Refused.{refused_front}
 use Rattle.item_small.proofs.item_laws.Bodies.{no_body, no_semi, semi_fronted}
 use Rattle.item_small.proofs.item.read.parse_body.Goals as goal
 

@@ -3,7 +3,7 @@ use Rattle.token_core.proofs.Steps.{link}
 use Rattle.token_core.proofs.Suffixes.{follows_trans}
 use Rattle.item_small.specs.item.Promises as promises
 use Rattle.item_small.specs.item.Reading.{field}
-use Rattle.item_small.proofs.front_laws.Refused.{passed_on, refused_front, stopped}
+use Rattle.token_core.proofs.fronts_laws.Refused.{passed_on, refused_front, stopped}
 use Rattle.item_small.proofs.front_laws.Tokens.{mark_fronted, mark_refused, name_fronted, name_refused}
 use Rattle.item_small.proofs.item_laws.Single.{field_fronted, no_attrs, no_colon, no_name, no_type}
 use Rattle.item_small.proofs.item.read.parse_field.Goals as goal

@@ -3,7 +3,7 @@ use Rattle.token_core.proofs.Steps.{link}
 use Rattle.token_core.proofs.Suffixes.{follows_trans}
 use Rattle.item_small.specs.item.Promises as promises
 use Rattle.item_small.specs.item.Reading.{item}
-use Rattle.item_small.proofs.front_laws.Refused.{passed_on, refused_front, stopped}
+use Rattle.token_core.proofs.fronts_laws.Refused.{passed_on, refused_front, stopped}
 use Rattle.item_small.proofs.front_laws.Tokens.{name_fronted, name_refused, word_fronted, word_refused}
 use Rattle.item_small.proofs.item_laws.Items.{item_fronted, no_attrs, no_body, no_clause, no_generics, no_name, no_word}
 use Rattle.item_small.proofs.item.read.parse_item.Goals as goal

@@ -6,7 +6,7 @@ use Rattle.token_core.specs.Reads.{open_group}
 use Rattle.token_core.proofs.Suffixes.{follows_trans}
 use Rattle.item_small.specs.declared.item.BodyOf.TheVariants as b
 use Rattle.item_small.specs.item.Promises as promises
-use Rattle.item_small.proofs.front_laws.Refused.{passed_on, refused_front}
+use Rattle.token_core.proofs.fronts_laws.Refused.{passed_on, refused_front}
 use Rattle.item_small.proofs.item_laws.Bodies.{braces_opened, braces_refused, fields_fronted, fields_read, fields_refused, named_read, named_refused, no_braces, no_fields, not_opened, read_fields}
 use Rattle.item_small.proofs.item.read.parse_named.Goals as goal
 

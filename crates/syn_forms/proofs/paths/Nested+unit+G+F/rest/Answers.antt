@@ -37,14 +37,14 @@ returns-clause-parses g c =
 pub returns-clause-fewer : goal.returns-clause-fewer
 returns-clause-fewer g c = ahead_follows _ _ (follows_trans _ _ _ c.parse_path_sep.ensures.parses.1 c.longer.ensures.parses.1)
 
-pub returns-then-ends_in_mark-goes_on-clause-parses : goal.returns-then-ends_in_mark-goes_on-clause-parses
+pub returns-then-ends_in_mark-clause-parses : goal.returns-then-ends_in_mark-clause-parses
 unfolding rest
-returns-then-ends_in_mark-goes_on-clause-parses g c =
+returns-then-ends_in_mark-clause-parses g c =
     let stops : (not (ends_in_mark c.args.path) && goes_on c.args.input.now.rest) ≡ false = first_of (search rules, grind (arith, common_steps)) in
     (chosen _ false _ _ _ _ stops refl, follows_self _)
 
-pub returns-then-ends_in_mark-goes_on-clause-fewer : goal.returns-then-ends_in_mark-goes_on-clause-fewer
-returns-then-ends_in_mark-goes_on-clause-fewer g c = ahead_follows _ _ (follows_self c.args.input.now)
+pub returns-then-ends_in_mark-clause-fewer : goal.returns-then-ends_in_mark-clause-fewer
+returns-then-ends_in_mark-clause-fewer g c = ahead_follows _ _ (follows_self c.args.input.now)
 
 pub longer-requires-clause-nests : goal.longer-requires-clause-nests
 longer-requires-clause-nests g c = c.requires.nests

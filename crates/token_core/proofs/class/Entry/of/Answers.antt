@@ -1,4 +1,4 @@
-use Rattle.std.proofs.Common.{if◌then◌else◌, inr, ap}
+use Rattle.std.proofs.Common.{if◌then◌else◌, ap}
 use Rattle.token_core.specs.declared.tree.TokenTree.{out-TokenTree}
 use Rattle.token_core.specs.Seen.{saw_leave}
 use Rattle.token_core.specs.Entries.{saw_layer}

@@ -1,10 +1,8 @@
-use Rattle.std.proofs.Common.{◌≡◌, Some, rules, arith}
-use Rattle.std.proofs.lemmas.Grind.{common_steps}
-use Rattle.token_core.specs.Lifetimes.{lifetime, past_lifetime}
-use Rattle.token_core.proofs.lifetime_laws.{suffix_lifetime}
+use Rattle.token_core.proofs.TokenFronts.{lifetime_fronted, lifetime_promised}
 use Rattle.token_core.proofs.lifetime.Lifetime.parse_any.Goals as goal
 
-pub go_on-requires : goal.go_on-requires
-go_on-requires c =
-    let e : past_lifetime c.args.input.now.rest ≡ Some (lifetime c.in-Some.apostrophe c.in-Some.ident.now, c.in-Some.more) = first_of (search rules, grind (arith, common_steps)) in
-    suffix_lifetime _ _ e
+pub returns-clause-promise : goal.returns-clause-promise
+returns-clause-promise c = lifetime_promised _ _ _ c.parse_lifetime.ensures.parses.0
+
+pub returns-clause-fronts : goal.returns-clause-fronts
+returns-clause-fronts c = lifetime_fronted _ _ _ c.parse_lifetime.ensures.parses.0

@@ -1,5 +1,7 @@
+use Rattle.token_core.proofs.Fronteds.{fronted}
 use Rattle.token_core.proofs.Headlines.{heads}
 use Rattle.syn_generics.specs.generics.Promises as promises
+use Rattle.syn_generics.proofs.generics_laws.FrontLaws.{where_clause_fronts}
 use Rattle.syn_generics.proofs.generics_laws.WholeLaws.{clauses_reprinted, where_clause_lawful}
 use Rattle.syn_ty.proofs.ty_laws.sound.Whole.{takes}
 use Rattle.syn_ty.proofs.ty_laws.GivenWhole.{given_again, given_meets}
@@ -10,8 +12,11 @@ use Rattle.syn_generics.proofs.generics.declared.WhereClauseOfParse.parse.Goals 
 pub returns-clause-promise : goal.returns-clause-promise
 returns-clause-promise g c = heads (promises.where_clause g.A.Attributes g.E.Value) (where_clause_lawful g.A.Attributes g.E.Value (given g.met.A.Attributes.told g.met.E.Value.consts g.met.E.Value.lengths) (given_meets g.met.A.Attributes.met g.met.E.Value.met g.met.E.Value.lengths) (given_again g.met.A.Attributes.met g.met.E.Value.met g.met.E.Value.lengths g.met.A.Attributes.bare)) _ _ _ c.parse_where_clause.ensures.parses.0
 
-pub returns-clause-front : goal.returns-clause-front
-returns-clause-front g c = takes (where_clause_took (given g.met.A.Attributes.told g.met.E.Value.consts g.met.E.Value.lengths)) _ _ _ c.parse_where_clause.ensures.parses.0
+pub returns-clause-fronts : goal.returns-clause-fronts
+returns-clause-fronts g c = fronted (promises.where_clause_front g.A.Attributes g.E.Value) (where_clause_fronts g.A.Attributes g.E.Value (given g.met.A.Attributes.told g.met.E.Value.consts g.met.E.Value.lengths) (given_meets g.met.A.Attributes.met g.met.E.Value.met g.met.E.Value.lengths) (given_again g.met.A.Attributes.met g.met.E.Value.met g.met.E.Value.lengths g.met.A.Attributes.bare)) _ _ _ c.parse_where_clause.ensures.parses.0
+
+pub returns-clause-takes : goal.returns-clause-takes
+returns-clause-takes g c = takes (where_clause_took (given g.met.A.Attributes.told g.met.E.Value.consts g.met.E.Value.lengths)) _ _ _ c.parse_where_clause.ensures.parses.0
 
 pub returns-clause-printed : goal.returns-clause-printed
 returns-clause-printed g c =

@@ -1,5 +1,8 @@
+use Rattle.token_core.proofs.Fronteds.{fronted}
 use Rattle.token_core.proofs.Headlines.{heads}
+use Rattle.syn_ty.specs.ty.Frontings as frontings
 use Rattle.syn_ty.specs.ty.Promises as promises
+use Rattle.syn_ty.proofs.ty_laws.FrontLaws.{captured_fronts}
 use Rattle.syn_ty.proofs.ty_laws.WholeLaws.{captured_lawful}
 use Rattle.syn_ty.proofs.ty_laws.sound.Whole.{takes}
 use Rattle.syn_ty.proofs.ty_laws.sound.Bound.{captured_took}
@@ -8,5 +11,8 @@ use Rattle.syn_ty.proofs.generics.read.CapturedParamParse.parse.Goals as goal
 pub returns-clause-promise : goal.returns-clause-promise
 returns-clause-promise c = heads promises.captured captured_lawful _ _ _ c.parse_captured.ensures.parses.0
 
-pub returns-clause-front : goal.returns-clause-front
-returns-clause-front c = takes captured_took _ _ _ c.parse_captured.ensures.parses.0
+pub returns-clause-fronts : goal.returns-clause-fronts
+returns-clause-fronts c = fronted frontings.captured captured_fronts _ _ _ c.parse_captured.ensures.parses.0
+
+pub returns-clause-takes : goal.returns-clause-takes
+returns-clause-takes c = takes captured_took _ _ _ c.parse_captured.ensures.parses.0

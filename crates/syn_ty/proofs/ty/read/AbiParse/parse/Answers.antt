@@ -1,5 +1,8 @@
+use Rattle.token_core.proofs.Fronteds.{fronted}
 use Rattle.token_core.proofs.Headlines.{heads}
+use Rattle.syn_ty.specs.ty.Frontings as frontings
 use Rattle.syn_ty.specs.ty.Promises as promises
+use Rattle.syn_ty.proofs.ty_laws.FrontLaws.{abi_fronts}
 use Rattle.syn_ty.proofs.ty_laws.WholeLaws.{abi_lawful}
 use Rattle.syn_ty.proofs.ty_laws.sound.Whole.{takes}
 use Rattle.syn_ty.proofs.ty_laws.sound.Functions.{abi_took}
@@ -8,5 +11,8 @@ use Rattle.syn_ty.proofs.ty.read.AbiParse.parse.Goals as goal
 pub returns-clause-promise : goal.returns-clause-promise
 returns-clause-promise c = heads promises.abi abi_lawful _ _ _ c.parse_abi.ensures.parses.0
 
-pub returns-clause-front : goal.returns-clause-front
-returns-clause-front c = takes abi_took _ _ _ c.parse_abi.ensures.parses.0
+pub returns-clause-fronts : goal.returns-clause-fronts
+returns-clause-fronts c = fronted frontings.abi abi_fronts _ _ _ c.parse_abi.ensures.parses.0
+
+pub returns-clause-takes : goal.returns-clause-takes
+returns-clause-takes c = takes abi_took _ _ _ c.parse_abi.ensures.parses.0

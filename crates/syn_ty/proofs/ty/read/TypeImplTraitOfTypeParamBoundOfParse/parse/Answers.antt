@@ -1,5 +1,8 @@
+use Rattle.token_core.proofs.Fronteds.{fronted}
 use Rattle.token_core.proofs.Headlines.{heads}
+use Rattle.syn_ty.specs.ty.Frontings as frontings
 use Rattle.syn_ty.specs.ty.Promises as promises
+use Rattle.syn_ty.proofs.ty_laws.FrontLaws.{impl_trait_fronts}
 use Rattle.syn_ty.proofs.ty_laws.WholeLaws.{impl_trait_lawful}
 use Rattle.syn_ty.proofs.ty_laws.sound.Whole.{takes}
 use Rattle.syn_ty.proofs.ty_laws.GivenWhole.{given_again, given_meets}
@@ -11,5 +14,8 @@ use Rattle.syn_ty.proofs.ty.read.TypeImplTraitOfTypeParamBoundOfParse.parse.Goal
 pub returns-clause-promise : goal.returns-clause-promise
 returns-clause-promise g c = heads (promises.impl_trait g.A.Attributes g.E.Value Plus) (impl_trait_lawful g.A.Attributes g.E.Value (given g.met.A.Attributes.told g.met.E.Value.consts g.met.E.Value.lengths) (given_meets g.met.A.Attributes.met g.met.E.Value.met g.met.E.Value.lengths) (given_again g.met.A.Attributes.met g.met.E.Value.met g.met.E.Value.lengths g.met.A.Attributes.bare) Plus) _ _ _ c.parse_impl_trait.ensures.parses.0
 
-pub returns-clause-front : goal.returns-clause-front
-returns-clause-front g c = takes (impl_trait_took (given g.met.A.Attributes.told g.met.E.Value.consts g.met.E.Value.lengths) Plus) _ _ _ c.parse_impl_trait.ensures.parses.0
+pub returns-clause-fronts : goal.returns-clause-fronts
+returns-clause-fronts g c = fronted (frontings.impl_trait g.A.Attributes g.E.Value Plus) (impl_trait_fronts g.A.Attributes g.E.Value (given g.met.A.Attributes.told g.met.E.Value.consts g.met.E.Value.lengths) (given_meets g.met.A.Attributes.met g.met.E.Value.met g.met.E.Value.lengths) (given_again g.met.A.Attributes.met g.met.E.Value.met g.met.E.Value.lengths g.met.A.Attributes.bare) Plus) _ _ _ c.parse_impl_trait.ensures.parses.0
+
+pub returns-clause-takes : goal.returns-clause-takes
+returns-clause-takes g c = takes (impl_trait_took (given g.met.A.Attributes.told g.met.E.Value.consts g.met.E.Value.lengths) Plus) _ _ _ c.parse_impl_trait.ensures.parses.0

@@ -1,5 +1,6 @@
 use Rattle.token_core.proofs.Fronteds.{fronted}
 use Rattle.token_core.proofs.Headlines.{heads}
+use Rattle.syn_ty.specs.ty.Frontings as frontings
 use Rattle.syn_ty.specs.ty.Promises as promises
 use Rattle.syn_ty.proofs.ty_laws.FrontLaws.{ty_fronts}
 use Rattle.syn_ty.proofs.ty_laws.WholeLaws.{ty_lawful}
@@ -14,11 +15,11 @@ use Rattle.syn_ty.proofs.ty.read.TypeOfParse.parse.Goals as goal
 pub returns-clause-promise : goal.returns-clause-promise
 returns-clause-promise g c = heads (promises.ty g.A.Attributes g.E.Value Plus) (ty_lawful g.A.Attributes g.E.Value (given g.met.A.Attributes.told g.met.E.Value.consts g.met.E.Value.lengths) (given_meets g.met.A.Attributes.met g.met.E.Value.met g.met.E.Value.lengths) (given_again g.met.A.Attributes.met g.met.E.Value.met g.met.E.Value.lengths g.met.A.Attributes.bare) Plus) _ _ _ c.parse_type.ensures.parses.0
 
-pub returns-clause-front : goal.returns-clause-front
-returns-clause-front g c = takes (ty_took (given g.met.A.Attributes.told g.met.E.Value.consts g.met.E.Value.lengths) Plus) _ _ _ c.parse_type.ensures.parses.0
-
 pub returns-clause-fronts : goal.returns-clause-fronts
-returns-clause-fronts g c = fronted (promises.ty_front g.A.Attributes g.E.Value) (ty_fronts g.A.Attributes g.E.Value (given g.met.A.Attributes.told g.met.E.Value.consts g.met.E.Value.lengths) (given_meets g.met.A.Attributes.met g.met.E.Value.met g.met.E.Value.lengths) (given_again g.met.A.Attributes.met g.met.E.Value.met g.met.E.Value.lengths g.met.A.Attributes.bare)) _ _ _ c.parse_type.ensures.parses.0
+returns-clause-fronts g c = fronted (frontings.ty g.A.Attributes g.E.Value Plus) (ty_fronts g.A.Attributes g.E.Value (given g.met.A.Attributes.told g.met.E.Value.consts g.met.E.Value.lengths) (given_meets g.met.A.Attributes.met g.met.E.Value.met g.met.E.Value.lengths) (given_again g.met.A.Attributes.met g.met.E.Value.met g.met.E.Value.lengths g.met.A.Attributes.bare) Plus) _ _ _ c.parse_type.ensures.parses.0
+
+pub returns-clause-takes : goal.returns-clause-takes
+returns-clause-takes g c = takes (ty_took (given g.met.A.Attributes.told g.met.E.Value.consts g.met.E.Value.lengths) Plus) _ _ _ c.parse_type.ensures.parses.0
 
 pub returns-clause-group : goal.returns-clause-group
 returns-clause-group g c = takes_group (given g.met.A.Attributes.told g.met.E.Value.consts g.met.E.Value.lengths) Plus _ _ _ c.parse_type.ensures.parses.0

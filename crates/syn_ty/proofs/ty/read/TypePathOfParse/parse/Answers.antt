@@ -1,5 +1,8 @@
+use Rattle.token_core.proofs.Fronteds.{fronted}
 use Rattle.token_core.proofs.Headlines.{heads}
+use Rattle.syn_ty.specs.ty.Frontings as frontings
 use Rattle.syn_ty.specs.ty.Promises as promises
+use Rattle.syn_ty.proofs.ty_laws.FrontLaws.{path_type_fronts}
 use Rattle.syn_ty.proofs.ty_laws.WholeLaws.{path_type_lawful}
 use Rattle.syn_ty.proofs.ty_laws.sound.Whole.{takes}
 use Rattle.syn_ty.proofs.ty_laws.GivenWhole.{given_again, given_meets}
@@ -10,5 +13,8 @@ use Rattle.syn_ty.proofs.ty.read.TypePathOfParse.parse.Goals as goal
 pub returns-clause-promise : goal.returns-clause-promise
 returns-clause-promise g c = heads (promises.path_type g.A.Attributes g.E.Value) (path_type_lawful g.A.Attributes g.E.Value (given g.met.A.Attributes.told g.met.E.Value.consts g.met.E.Value.lengths) (given_meets g.met.A.Attributes.met g.met.E.Value.met g.met.E.Value.lengths) (given_again g.met.A.Attributes.met g.met.E.Value.met g.met.E.Value.lengths g.met.A.Attributes.bare)) _ _ _ c.parse_path_type.ensures.parses.0
 
-pub returns-clause-front : goal.returns-clause-front
-returns-clause-front g c = takes (path_type_took (given g.met.A.Attributes.told g.met.E.Value.consts g.met.E.Value.lengths)) _ _ _ c.parse_path_type.ensures.parses.0
+pub returns-clause-fronts : goal.returns-clause-fronts
+returns-clause-fronts g c = fronted (frontings.path_type g.A.Attributes g.E.Value) (path_type_fronts g.A.Attributes g.E.Value (given g.met.A.Attributes.told g.met.E.Value.consts g.met.E.Value.lengths) (given_meets g.met.A.Attributes.met g.met.E.Value.met g.met.E.Value.lengths) (given_again g.met.A.Attributes.met g.met.E.Value.met g.met.E.Value.lengths g.met.A.Attributes.bare)) _ _ _ c.parse_path_type.ensures.parses.0
+
+pub returns-clause-takes : goal.returns-clause-takes
+returns-clause-takes g c = takes (path_type_took (given g.met.A.Attributes.told g.met.E.Value.consts g.met.E.Value.lengths)) _ _ _ c.parse_path_type.ensures.parses.0

@@ -1,0 +1,5 @@
+pub mod Both
+pub mod Same
+pub mod Lists
+pub mod Groups
+pub mod Options
