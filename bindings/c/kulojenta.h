@@ -76,7 +76,7 @@ enum kulojenta_kind {
     KULOJENTA_RANGE_WITHOUT_END = 47,             /* a range ends in `..=` */
     KULOJENTA_OPEN_RANGE_IN_SLICE = 48,           /* an element of a slice's pattern is a range that lacks a bound */
     KULOJENTA_BOUND_MODIFIERS_NOT_SUPPORTED = 49, /* a trait bound has `const`, `[const]` or `async` where none is supported */
-    KULOJENTA_NESTED_TOO_DEEP = 50                /* a text goes down more levels than its limit */
+    KULOJENTA_NESTED_TOO_DEEP = 50                /* a text is nested deeper than its limit */
 };
 
 typedef struct {

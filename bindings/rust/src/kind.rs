@@ -74,7 +74,7 @@ pub enum Kind {
     OpenRangeInSlice,
     /// A trait bound has `const`, `[const]` or `async` where none is supported.
     BoundModifiersNotSupported,
-    /// A text goes down more levels than its limit.
+    /// A text is nested deeper than its limit.
     NestedTooDeep,
     /// A kind that this crate doesn't know, of a library that is newer than it.
     Other,
