@@ -63,10 +63,8 @@ fn kinds_have_names() {
     assert_eq!(kind("Foo", "a"), Kind::UnknownReader);
     assert_eq!(kind("Type", "[A"), Kind::UnclosedDelimiter);
     assert_eq!(kind("Type", "dyn 'a"), Kind::NoTraitInObject);
-    assert_eq!(
-        kind("TraitBound", "async A"),
-        Kind::BoundModifiersNotSupported
-    );
+    assert_eq!(kind("Type", "impl 'a"), Kind::NoTraitInImpl);
+    assert_eq!(kind("Type", "\""), Kind::UnterminatedToken);
 }
 
 #[test]
