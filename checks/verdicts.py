@@ -118,6 +118,8 @@ def day_of(crate, fault):
 
 def keep(crate, refused, known):
     """Keeps these verdicts, each a fault and why it was refused, and drops those of faults that are no more."""
+    # (a run comes here once for each lot of a crate)
+    kept.cache_clear()
     found = {name: it for name, it in kept(crate).items() if name in known}
     today = datetime.date.today().isoformat()
     for fault, why in refused:
