@@ -100,10 +100,9 @@ fn is_other(name: &Name) -> bool
 }
 
 /// `x:`
-#[tactic(auto, using(token_core::proofs::Suffixes::follows, crate::proofs::nested_laws::Ahead::later), unfolding(crate::specs::inputs::Reading::name))]
+#[tactic(auto, using(token_core::proofs::Suffixes::follows), unfolding(crate::specs::inputs::Reading::name))]
 fn parse_name(alloc: Global, input: &mut ParseStream<'_>) -> Result<(Ident, Colon), Error>
     ensures parses { Parses reading.name result input.old input.new }
-    ensures fewer { ahead input.new ≤ ahead input.old }
 {
     let ident = parse_any_ident(alloc, input)?;
     let colon_token = parse_colon(alloc, input)?;
@@ -111,14 +110,13 @@ fn parse_name(alloc: Global, input: &mut ParseStream<'_>) -> Result<(Ident, Colo
 }
 
 /// A name that may be there.
-#[tactic(auto, using(token_core::proofs::Suffixes::follows, crate::proofs::nested_laws::Ahead::later))]
+#[tactic(auto, using(token_core::proofs::Suffixes::follows))]
 pub fn parse_optional_name(
     alloc: Global,
     input: &mut ParseStream<'_>,
     own: bool,
 ) -> Result<Name, Error>
     ensures parses { Parses (optional (reading.sees_name own) reading.name) result input.old input.new }
-    ensures fewer { ahead input.new ≤ ahead input.old }
 {
     if sees_name(input, own) {
         return Ok(Some(parse_name(alloc, input)?));
@@ -127,7 +125,7 @@ pub fn parse_optional_name(
 }
 
 /// `mut self`, held as it was written with what was read before it.
-#[tactic(auto, using(token_core::proofs::Suffixes::follows, crate::proofs::verbatim_laws::Reached::later, crate::proofs::nested_laws::Ahead::later))]
+#[tactic(auto, using(token_core::proofs::Suffixes::follows, crate::proofs::verbatim_laws::Reached::later))]
 fn parse_own<T: Drop, V: Verbatim<T>>(
     alloc: Global,
     from: &Cursor<'_>,
@@ -136,7 +134,6 @@ fn parse_own<T: Drop, V: Verbatim<T>>(
 ) -> Result<(Name, T), Error>
     requires reached { IsReached (position input.old) from.now }
     ensures parses { Parses (reading.own (V.verbatim verbatim) from.now) result input.old input.new }
-    ensures fewer { ahead input.new ≤ ahead input.old }
 {
     input.parse::<Mut>(alloc)?;
     input.parse::<SelfValue>(alloc)?;
@@ -173,13 +170,12 @@ impl<
     /// A type, and a name before it that may be there: `x: T`, as in syn's `NamedArg` without its attributes.
     ///
     /// A name is an identifier or `_` before a `:` that is not `::`. Refused is what the type refuses.
-    #[tactic(auto, using(token_core::proofs::Suffixes::follows, crate::proofs::nested_laws::Ahead::later), unfolding(crate::specs::inputs::Reading::plain_argument))]
+    #[tactic(auto, using(token_core::proofs::Suffixes::follows), unfolding(crate::specs::inputs::Reading::plain_argument))]
     pub fn plain_argument(&self, input: &mut ParseStream<'_>, place: P) -> Result<(Name, T), Error>
         requires nests { Nests T.read (length self.now.begin) (F.pre self.now.read) (F.post self.now.read) }
         requires few { ahead input.old < length self.now.begin }
         ensures parses { Parses (reading.plain_argument (below.held T.read (length self.now.begin) place))
             result input.old input.new }
-        ensures fewer { ahead input.new ≤ ahead input.old }
     {
         let name = parse_optional_name(self.alloc, input, false)?;
         let ty = self.value(input, place)?;
@@ -187,7 +183,7 @@ impl<
     }
 
     /// `mut self`, `mut self: T`: held as they were written, without a name.
-    #[tactic(auto, using(token_core::proofs::Suffixes::follows, token_core::proofs::Places::positions, crate::proofs::nested_laws::Ahead::later), unfolding(crate::specs::inputs::Reading::mut_self))]
+    #[tactic(auto, using(token_core::proofs::Suffixes::follows, token_core::proofs::Places::positions), unfolding(crate::specs::inputs::Reading::mut_self))]
     fn mut_self<V: Verbatim<T>>(
         &self,
         input: &mut ParseStream<'_>,
@@ -199,7 +195,6 @@ impl<
         ensures parses { Parses
             (reading.mut_self (below.held T.read (length self.now.begin) place) (V.verbatim verbatim))
             result input.old input.new }
-        ensures fewer { ahead input.new ≤ ahead input.old }
     {
         let from = input.cursor();
         input.parse::<Mut>(self.alloc)?;
@@ -214,7 +209,7 @@ impl<
     }
 
     /// A type, and a name before it that may be there and be `self`; `x: mut self` is held as it was written, without a name.
-    #[tactic(auto, using(token_core::proofs::Suffixes::follows, token_core::proofs::Places::positions, crate::proofs::nested_laws::Ahead::later), unfolding(crate::specs::inputs::Reading::named_argument))]
+    #[tactic(auto, using(token_core::proofs::Suffixes::follows, token_core::proofs::Places::positions), unfolding(crate::specs::inputs::Reading::named_argument))]
     fn named_argument<V: Verbatim<T>>(
         &self,
         input: &mut ParseStream<'_>,
@@ -226,7 +221,6 @@ impl<
         ensures parses { Parses
             (reading.named_argument (below.held T.read (length self.now.begin) place) (V.verbatim verbatim))
             result input.old input.new }
-        ensures fewer { ahead input.new ≤ ahead input.old }
     {
         let from = input.cursor();
         let name = parse_optional_name(self.alloc, input, true)?;
@@ -250,7 +244,6 @@ impl<
         ensures parses { Parses
             (reading.first_argument (below.held T.read (length self.now.begin) place) (V.verbatim verbatim))
             result input.old input.new }
-        ensures fewer { ahead input.new ≤ ahead input.old }
     {
         if sees_mut_self(input) {
             return self.mut_self(input, place, verbatim);
@@ -275,7 +268,6 @@ impl<
         ensures parses { Parses
             (reading.argument (below.held T.read (length self.now.begin) place) (V.verbatim verbatim) first)
             result input.old input.new }
-        ensures fewer { ahead input.new ≤ ahead input.old }
     {
         if first {
             self.first_argument(input, place, verbatim)
@@ -329,7 +321,7 @@ impl<
     // ---- the arguments of a function type
 
     /// What is made of each type, in parentheses and joined by commas.
-    #[tactic(auto, using(token_core::proofs::Suffixes::follows, crate::proofs::nested_laws::Ahead::later))]
+    #[tactic(auto, using(token_core::proofs::Suffixes::follows))]
     fn made_in_parens<V: Drop, K: Make<T, V>>(
         &self,
         input: &mut ParseStream<'_>,
@@ -341,7 +333,6 @@ impl<
         ensures parses { Parses
             (in_parens (reading.made_inputs (K.make make) (below.held T.read (length self.now.begin) place)))
             result input.old input.new }
-        ensures fewer { ahead input.new ≤ ahead input.old }
     {
         let (paren_token, mut content) = open_parens(self.alloc, input)?;
         let values = self.made_list(&mut content, place, make)?;
@@ -353,7 +344,7 @@ impl<
     /// syn's `ParenthesizedGenericArguments`: `(A, B) -> C`. A comma may follow the last argument.
     ///
     /// Refused are what are no parentheses, what a type refuses, and what follows an argument and is no comma.
-    #[tactic(auto, using(token_core::proofs::Suffixes::follows, crate::proofs::nested_laws::Ahead::later), unfolding(crate::specs::inputs::Reading::signature))]
+    #[tactic(auto, using(token_core::proofs::Suffixes::follows), unfolding(crate::specs::inputs::Reading::signature))]
     pub fn signature<V: Drop, K: Make<T, V>>(
         &self,
         input: &mut ParseStream<'_>,
@@ -366,7 +357,6 @@ impl<
         ensures parses { Parses (reading.signature (K.make make) (below.held T.read (length self.now.begin) value_place)
             (below.held T.read (length self.now.begin) output_place))
             result input.old input.new }
-        ensures fewer { ahead input.new ≤ ahead input.old }
     {
         let (paren_token, inputs) = self.made_in_parens(input, value_place, make)?;
         let output = self.returned(input, output_place)?;
