@@ -1,20 +1,28 @@
 -- Each grammar of this layer meets its laws, where those of attributes and expressions are given: its read is sound and complete, and what it spells plainly is reprinted.
-use Rattle.std.proofs.Common.{◌≡◌, true, false, List, Option}
-use Rattle.syn_ty.proofs.ty_laws.words.Tokens.{Span, Print, Reader, Scope, Toks}
+use Rattle.std.specs.Prelude.{not, ◌&&◌}
+use Rattle.std.proofs.Common.{◌≡◌, Bool, true, false, List, Option, refl}
+use Rattle.std.proofs.lemmas.Bool.{not-true}
+use Rattle.syn_ty.proofs.ty_laws.words.Tokens.{Span, Print, Reader, Scope, Toks, sees_str}
 use Rattle.syn_ty.proofs.ty_laws.words.Paths.{AttributeLaws}
 use Rattle.syn_ty.proofs.ty_laws.words.Forms.{TypePlace}
-use Rattle.syn_ty.proofs.ty_laws.words.Types.{Manner, loosely, clearly}
+use Rattle.syn_ty.proofs.ty_laws.words.Types.{Manner, loosely, clearly, IsAbi}
+use Rattle.token_core.specs.Fronted.{FrontLaws}
 use Rattle.token_core.specs.Headline.{Lawful}
 use Rattle.token_core.specs.Tokens as token
 use Rattle.token_core.proofs.Steps.{Reads_to}
 use Rattle.syn_path.specs.Traits.{Attributes, Expressions}
 use Rattle.syn_path.proofs.Words.{AgainFront}
+use Rattle.syn_forms.proofs.tokens_laws.Fronts.{front_lawful_by}
+use Rattle.syn_ty.specs.ty.Printing as printing
 use Rattle.syn_ty.specs.ty.Promises as promises
 use Rattle.syn_ty.specs.ty.Promises.{promise}
 use Rattle.syn_ty.specs.ty.Spelt as by
 use Rattle.syn_ty.proofs.ty_laws.Given.{Given}
 use Rattle.syn_ty.proofs.ty_laws.reprint.Knot.{GivenAgain}
+use Rattle.syn_ty.proofs.ty_laws.complete.Functions.{abi_met, optional_abi_met}
 use Rattle.syn_ty.proofs.ty_laws.complete.Knot.{GivenMeets}
+use Rattle.syn_ty.proofs.ty_laws.reprint.Signatures.{abi_again, optional_front}
+use Rattle.syn_ty.proofs.ty_laws.sound.Functions.{abi_took, optional_abi_took}
 use Rattle.syn_ty.proofs.ty_laws.reprint.Whole as again
 use Rattle.syn_ty.proofs.ty_laws.complete.Whole as met
 use Rattle.syn_ty.proofs.ty_laws.sound.Whole as told
@@ -140,3 +148,17 @@ abi_lawful = lawful (λ how x l. by.SpellsAbi x l) told.abi_sound met.abi_comple
 
 pub optional_abi_lawful : Lawful promises.optional_abi
 optional_abi_lawful = lawful (λ how x l. by.SpellsOptionalAbi x l) told.optional_abi_sound met.optional_abi_complete again.optional_abi_again
+
+-- ---- the same on the front of a list
+
+neither : (a b : Bool) → (not a && not b) ≡ true → (a ≡ false) × (b ≡ false)
+neither true b h = cc
+neither false b h = (refl, not-true b h)
+
+pub abi_front_lawful : FrontLaws promises.abi_front
+abi_front_lawful = front_lawful_by promises.abi_front abi_took (λ s a k i o. abi_met a s.rest k s.left s.last s.scope i (not-true (sees_str k) o)) abi_again
+
+pub optional_abi_front_lawful : FrontLaws promises.optional_abi_front
+optional_abi_front_lawful =
+    front_lawful_by promises.optional_abi_front optional_abi_took (λ s o k i h. let n = neither (token.sees_extern k) (sees_str k) h in optional_abi_met o s.rest k s.left s.last s.scope i n.0 n.1)
+    (optional_front IsAbi IsAbi printing.abi abi_again)

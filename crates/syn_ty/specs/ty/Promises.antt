@@ -1,7 +1,8 @@
 -- The promise of each reader of this layer: which lists its trees spell, their normal form, their print, which have clear verbatim parts, and the read.
-use Rattle.std.specs.Prelude.{Bool, true, false, ◌||◌, Option, option_map}
+use Rattle.std.specs.Prelude.{Bool, true, false, not, ◌&&◌, ◌||◌, Option, option_map}
 use Rattle.token_core.specs.Fronted.{Fronting}
 use Rattle.token_core.specs.Headline.{Grammar}
+use Rattle.token_core.specs.Lits.{sees_str}
 use Rattle.token_core.specs.Prints as p
 use Rattle.token_core.specs.Prints.{Print}
 use Rattle.token_core.specs.Reads.{Reader, is_done}
@@ -24,12 +25,13 @@ use Rattle.syn_ty.specs.generics.Params.{lifetime_param_of}
 use Rattle.syn_ty.specs.generics.Reading as parts
 use Rattle.syn_ty.specs.generics.Shapes as shapes
 use Rattle.syn_ty.specs.path.Printing as shown_paths
+use Rattle.syn_ty.specs.ty.Functions.{IsAbi}
 use Rattle.syn_ty.specs.ty.Knot as knot
 use Rattle.syn_ty.specs.ty.Normal as normal
 use Rattle.syn_ty.specs.ty.Parts.{Manner, loosely, plainly, clearly}
 use Rattle.syn_ty.specs.ty.Printing as shown
 use Rattle.syn_ty.specs.ty.Reading as reading
-use Rattle.syn_ty.specs.ty.Spelling.{Relation}
+use Rattle.syn_ty.specs.ty.Spelling.{IsOptional, Relation}
 use Rattle.syn_ty.specs.ty.Spelt as spelt
 use Rattle.syn_ty.specs.ty.Trees.{AngleBracketed, BoundLifetimes, ConstParam, GenericArgument, GenericParam, NamedArg, Parenthesized, Path, PathSegment, ReturnType, TraitBound, TypeArray, TypeFnPtr, TypeGroup, TypeImplTrait, TypeParam, TypeParamBound, TypeParen, TypePath, TypePtr, TypeReference, TypeSlice, TypeTraitObject, TypeTree, TypeTuple}
 
@@ -162,5 +164,13 @@ captured = promise (λ how x l. spelt.SpellsCaptured x l) (λ x. x) shapes.captu
 abbrev pub abi : Grammar Abi
 abi = promise (λ how x l. spelt.SpellsAbi x l) (λ x. x) shown.abi reading.abi
 
+-- on the front of a list, before what is no string
+abbrev pub abi_front : Fronting Abi
+abi_front = fronting abi (λ how. IsAbi) (λ k. not (sees_str k))
+
 abbrev pub optional_abi : Grammar (Option Abi)
 optional_abi = promise (λ how x l. spelt.SpellsOptionalAbi x l) (λ x. x) shown.optional_abi reading.optional_abi
+
+-- on the front of a list, before what is neither `extern` nor a string
+abbrev pub optional_abi_front : Fronting (Option Abi)
+optional_abi_front = fronting optional_abi (λ how. IsOptional IsAbi) (λ k. not (token.sees_extern k) && not (sees_str k))

@@ -408,11 +408,14 @@ impl<A: Attributes> Parse for TypeNeverOf<A> {
 
     ghost promise = { Headline (grammars.never A.normal) };
 
+    ghost fronts = { said (grammars.never_front A.normal) };
+
     fn parse(alloc: Global, input: &mut ParseStream<'_>) -> Result<TypeNeverOf<A>, Error>
         ensures reads { Reads (reading.never input.old) result input.new }
         ensures within { Follows input.old input.new }
         ensures front { Visible input.old.rest → IfOk result (λ x. IsNever false x input.old.rest input.new.rest) }
         ensures promise { Heads (grammars.never A.normal) input.old result input.new }
+        ensures fronts { Fronted (grammars.never_front A.normal) input.old result input.new }
     {
         parse_never(alloc, input)
     }
@@ -426,11 +429,14 @@ impl<A: Attributes> Parse for TypeInferOf<A> {
 
     ghost promise = { Headline (grammars.infer A.normal) };
 
+    ghost fronts = { said (grammars.infer_front A.normal) };
+
     fn parse(alloc: Global, input: &mut ParseStream<'_>) -> Result<TypeInferOf<A>, Error>
         ensures reads { Reads (reading.infer input.old) result input.new }
         ensures within { Follows input.old input.new }
         ensures front { Visible input.old.rest → IfOk result (λ x. IsInfer x input.old.rest input.new.rest) }
         ensures promise { Heads (grammars.infer A.normal) input.old result input.new }
+        ensures fronts { Fronted (grammars.infer_front A.normal) input.old result input.new }
     {
         parse_infer(alloc, input)
     }
@@ -444,11 +450,14 @@ impl<A: Attributes> Parse for TypeMacroOf<A> {
 
     ghost promise = { Headline (grammars.macro_type A.normal) };
 
+    ghost fronts = { said (grammars.macro_type_front A.normal) };
+
     fn parse(alloc: Global, input: &mut ParseStream<'_>) -> Result<TypeMacroOf<A>, Error>
         ensures reads { Reads (reading.macro_type input.old) result input.new }
         ensures within { Follows input.old input.new }
         ensures front { Visible input.old.rest → IfOk result (λ x. IsMacroType false x input.old.rest input.new.rest) }
         ensures promise { Heads (grammars.macro_type A.normal) input.old result input.new }
+        ensures fronts { Fronted (grammars.macro_type_front A.normal) input.old result input.new }
     {
         parse_macro_type(alloc, input)
     }
@@ -462,10 +471,13 @@ impl Parse for Abi {
 
     ghost promise = { Headline promises.abi };
 
+    ghost fronts = { said promises.abi_front };
+
     fn parse(alloc: Global, input: &mut ParseStream<'_>) -> Result<Abi, Error>
         ensures reads { Reads (reading.abi input.old) result input.new }
         ensures within { Follows input.old input.new }
         ensures promise { Heads promises.abi input.old result input.new }
+        ensures fronts { Fronted promises.abi_front input.old result input.new }
         ensures front { Takes IsAbi input.old result input.new }
     {
         parse_abi(alloc, input)
@@ -477,6 +489,7 @@ impl Abi {
     pub fn parse_optional(alloc: Global, input: &mut ParseStream<'_>) -> Result<Option<Abi>, Error>
         ensures parses { Parses reading.optional_abi result input.old input.new }
         ensures promise { Heads promises.optional_abi input.old result input.new }
+        ensures fronts { Fronted promises.optional_abi_front input.old result input.new }
         ensures front { Takes (IsOptional IsAbi) input.old result input.new }
     {
         parse_optional_abi(alloc, input)

@@ -1,6 +1,7 @@
+use Rattle.token_core.proofs.Fronteds.{fronted}
 use Rattle.token_core.proofs.Headlines.{heads}
 use Rattle.syn_ty.specs.ty.Grammars as grammars
-use Rattle.syn_ty.proofs.ty_laws.Leaves.{infer_lawful, infer_front}
+use Rattle.syn_ty.proofs.ty_laws.Leaves.{infer_lawful, infer_front, infer_front_lawful}
 use Rattle.syn_ty.proofs.ty.read.TypeInferOfParse.parse.Goals as goal
 
 pub returns-clause-promise : goal.returns-clause-promise
@@ -8,3 +9,6 @@ returns-clause-promise g c = heads (grammars.infer g.A.Attributes.normal) (infer
 
 pub returns-clause-front : goal.returns-clause-front
 returns-clause-front g c = infer_front _ _ _ c.parse_infer.ensures.parses.0
+
+pub returns-clause-fronts : goal.returns-clause-fronts
+returns-clause-fronts g c = fronted (grammars.infer_front g.A.Attributes.normal) (infer_front_lawful g.A.Attributes.normal g.met.A.Attributes.bare.stays) _ _ _ c.parse_infer.ensures.parses.0
