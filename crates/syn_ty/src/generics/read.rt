@@ -57,7 +57,7 @@ use token_core::{
 fn sees_captured_ident(input: &ParseStream<'_>) -> bool
     ensures { result ≡ reading.sees_captured_ident input.now.rest }
 {
-    input.peek::<Ident>() | input.peek::<SelfType>()
+    input.peek::<Ident>() || input.peek::<SelfType>()
 }
 
 /// The refusal where no parameter follows that can be captured; in a list the `>` is looked for too.

@@ -52,7 +52,7 @@ use token_core::{
 fn peek_const(input: &ParseStream<'_>) -> bool
     ensures { result ≡ reading.sees_const input.now.rest }
 {
-    input.peek::<Lit>() | input.peek::<Brace>()
+    input.peek::<Lit>() || input.peek::<Brace>()
 }
 
 /// Whether a lifetime is at the front that no `+` follows: with one it begins a trait object.
@@ -60,7 +60,7 @@ fn peek_const(input: &ParseStream<'_>) -> bool
 fn peek_lone_lifetime(input: &ParseStream<'_>) -> bool
     ensures { result ≡ reading.sees_lone_lifetime input.now.rest }
 {
-    input.peek::<Lifetime>() & !input.peek2::<Plus>()
+    input.peek::<Lifetime>() && !input.peek2::<Plus>()
 }
 
 /// Whether parentheses are at the front, or `::` and parentheses.
@@ -68,7 +68,7 @@ fn peek_lone_lifetime(input: &ParseStream<'_>) -> bool
 fn peek_signature(input: &ParseStream<'_>) -> bool
     ensures { result ≡ reading.sees_signature input.now.rest }
 {
-    input.peek::<Paren>() | (input.peek::<PathSep>() & input.peek3::<Paren>())
+    input.peek::<Paren>() || (input.peek::<PathSep>() && input.peek3::<Paren>())
 }
 
 /// The bounds of an associated type: they end before `,` and `>`, and a `+` may stand there.
@@ -84,7 +84,7 @@ impl End<Plus> for ToConstraintEnd {
 
     #[tactic(auto, unfolding(crate::specs::path::Reading::ends_constraint))]
     fn is_over(self, input: &ParseStream<'_>, first: bool) -> bool {
-        input.peek::<Comma>() | input.peek::<Gt>()
+        input.peek::<Comma>() || input.peek::<Gt>()
     }
 
     fn goes_on(self, input: &ParseStream<'_>) -> bool {
@@ -603,8 +603,7 @@ impl<
             result input.old input.new }
         ensures fewer { ahead input.new ≤ ahead input.old }
     {
-        // both tested, so that the answer is one value
-        if !(takes_signature(&path) & peek_signature(input)) {
+        if !(takes_signature(&path) && peek_signature(input)) {
             return Ok(path);
         }
         let signature = self.signature_after(input)?;

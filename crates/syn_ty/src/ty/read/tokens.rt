@@ -54,7 +54,7 @@ impl Token for AnyIdent {
 pub(crate) fn sees_unsafe_binder(input: &ParseStream<'_>) -> bool
     ensures { result ≡ reading.sees_unsafe_binder input.now.rest }
 {
-    input.peek::<Unsafe>() & input.peek2::<Lt>()
+    input.peek::<Unsafe>() && input.peek2::<Lt>()
 }
 
 /// Whether a pointer to a function is at the front: `fn`, `unsafe` or `extern`.
@@ -62,7 +62,7 @@ pub(crate) fn sees_unsafe_binder(input: &ParseStream<'_>) -> bool
 pub(crate) fn sees_fn_ptr(input: &ParseStream<'_>) -> bool
     ensures { result ≡ reading.sees_fn_ptr input.now.rest }
 {
-    input.peek::<Fn>() | (input.peek::<Unsafe>() | input.peek::<Extern>())
+    input.peek::<Fn>() || (input.peek::<Unsafe>() || input.peek::<Extern>())
 }
 
 /// Whether `builtin` and `#` are at the front.
@@ -70,7 +70,7 @@ pub(crate) fn sees_fn_ptr(input: &ParseStream<'_>) -> bool
 pub(crate) fn sees_builtin(input: &ParseStream<'_>) -> bool
     ensures { result ≡ reading.sees_builtin input.now.rest }
 {
-    input.peek_builtin() & input.peek2::<Pound>()
+    input.peek_builtin() && input.peek2::<Pound>()
 }
 
 /// Whether what may follow a binder is at the front.
@@ -78,7 +78,7 @@ pub(crate) fn sees_builtin(input: &ParseStream<'_>) -> bool
 pub(crate) fn sees_bindable(input: &ParseStream<'_>) -> bool
     ensures { result ≡ reading.sees_bindable input.now.rest }
 {
-    begins_mod_segment(input) | sees_fn_ptr(input)
+    begins_mod_segment(input) || sees_fn_ptr(input)
 }
 
 /// Whether a pointer to a function, a path, or tokens that no case holds begin here.
@@ -86,7 +86,7 @@ pub(crate) fn sees_bindable(input: &ParseStream<'_>) -> bool
 pub(crate) fn begins_named(input: &ParseStream<'_>) -> bool
     ensures { result ≡ reading.begins_named input.now.rest }
 {
-    sees_bindable(input) | (input.peek::<PathSep>() | input.peek::<Lt>())
+    sees_bindable(input) || (input.peek::<PathSep>() || input.peek::<Lt>())
 }
 
 /// Whether a `!` that is not `!=` is at the front.
@@ -94,7 +94,7 @@ pub(crate) fn begins_named(input: &ParseStream<'_>) -> bool
 pub fn sees_call(input: &ParseStream<'_>) -> bool
     ensures { result ≡ reading.sees_call input.now.rest }
 {
-    input.peek::<Not>() & !input.peek::<Ne>()
+    input.peek::<Not>() && !input.peek::<Ne>()
 }
 
 /// Whether `::` and an identifier are at the front, keywords too.
@@ -102,7 +102,7 @@ pub fn sees_call(input: &ParseStream<'_>) -> bool
 pub(crate) fn sees_further_segment(input: &ParseStream<'_>) -> bool
     ensures { result ≡ reading.sees_further_segment input.now.rest }
 {
-    input.peek::<PathSep>() & input.peek3::<AnyIdent>()
+    input.peek::<PathSep>() && input.peek3::<AnyIdent>()
 }
 
 /// Whether `<`, or `::` and `<`, are at the front.
@@ -110,14 +110,14 @@ pub(crate) fn sees_further_segment(input: &ParseStream<'_>) -> bool
 pub(crate) fn sees_further_arguments(input: &ParseStream<'_>) -> bool
     ensures { result ≡ reading.sees_further_arguments input.now.rest }
 {
-    input.peek::<Lt>() | (input.peek::<PathSep>() & input.peek3::<Lt>())
+    input.peek::<Lt>() || (input.peek::<PathSep>() && input.peek3::<Lt>())
 }
 
 /// Whether a `+` follows where one goes on with the type.
 pub(crate) fn plus_follows(input: &ParseStream<'_>, plus: bool) -> bool
     ensures { result ≡ lists.plus_follows plus input.now.rest }
 {
-    plus & input.peek::<Plus>()
+    plus && input.peek::<Plus>()
 }
 
 // ---- tokens without a tree in them
