@@ -41,7 +41,7 @@ use token_core::{
 fn sees_lifetime_predicate(input: &ParseStream<'_>) -> bool
     ensures { result ≡ reading.sees_lifetime_predicate input.now.rest }
 {
-    input.peek::<Lifetime>() & input.peek2::<Colon>()
+    input.peek::<Lifetime>() && input.peek2::<Colon>()
 }
 
 /// Whether after a `<` a lifetime or an identifier stands before `>`, `,`, `=` or a `:` that is not `::`.
@@ -49,11 +49,11 @@ fn sees_lifetime_predicate(input: &ParseStream<'_>) -> bool
 fn sees_first_param(input: &ParseStream<'_>) -> bool
     ensures { result ≡ reading.sees_first_param input.now.rest }
 {
-    (input.peek2::<Lifetime>() | input.peek2::<Ident>())
-        & (input.peek3::<Gt>()
-            | input.peek3::<Comma>()
-            | (input.peek3::<Colon>() & !input.peek3::<PathSep>())
-            | input.peek3::<Eq>())
+    (input.peek2::<Lifetime>() || input.peek2::<Ident>())
+        && (input.peek3::<Gt>()
+            || input.peek3::<Comma>()
+            || (input.peek3::<Colon>() && !input.peek3::<PathSep>())
+            || input.peek3::<Eq>())
 }
 
 /// Whether generics begin here, and no qualified type (syn's `choose_generics_over_qpath`).
@@ -62,10 +62,10 @@ fn sees_generics(input: &ParseStream<'_>) -> bool
     ensures { result ≡ reading.sees_generics input.now.rest }
 {
     input.peek::<Lt>()
-        & (input.peek2::<Gt>()
-            | input.peek2::<Pound>()
-            | sees_first_param(input)
-            | input.peek2::<Const>())
+        && (input.peek2::<Gt>()
+            || input.peek2::<Pound>()
+            || sees_first_param(input)
+            || input.peek2::<Const>())
 }
 
 /// Refuses generics after `where`.
