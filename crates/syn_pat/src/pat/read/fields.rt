@@ -47,7 +47,7 @@ fn parse_modes(alloc: Global, input: &mut ParseStream<'_>) -> Result<Modes, Erro
 fn has_mode(modes: &Modes) -> bool
     ensures { result ≡ reading.has_mode modes.now }
 {
-    modes.0.is_some() | (modes.1.is_some() | modes.2.is_some())
+    modes.0.is_some() || (modes.1.is_some() || modes.2.is_some())
 }
 
 /// The pattern of a field that binds its name; one with `box` is held as it was written.

@@ -28,14 +28,14 @@ use token_core::{Boxed, Error, ErrorKind, Items, Lit, ParseStream, RangeLimits};
 fn sees_bound_path(input: &ParseStream<'_>) -> bool
     ensures { result ≡ reading.sees_bound_path input.now.rest }
 {
-    begins_mod_segment(input) | (input.peek::<PathSep>() | input.peek::<Lt>())
+    begins_mod_segment(input) || (input.peek::<PathSep>() || input.peek::<Lt>())
 }
 
 /// Whether a `:` that is not `::` is at the front.
 fn sees_lone_colon(input: &ParseStream<'_>) -> bool
     ensures { result ≡ reading.sees_lone_colon input.now.rest }
 {
-    input.peek::<Colon>() & !input.peek::<PathSep>()
+    input.peek::<Colon>() && !input.peek::<PathSep>()
 }
 
 /// Whether a range ends here without a bound.
@@ -44,10 +44,10 @@ fn ends_range(input: &ParseStream<'_>) -> bool
     ensures { result ≡ reading.ends_range input.now.rest }
 {
     input.is_empty()
-        | (input.peek::<Or>()
-            | (input.peek::<Eq>()
-                | (sees_lone_colon(input)
-                    | (input.peek::<Comma>() | (input.peek::<Semi>() | input.peek::<If>())))))
+        || (input.peek::<Or>()
+            || (input.peek::<Eq>()
+                || (sees_lone_colon(input)
+                    || (input.peek::<Comma>() || (input.peek::<Semi>() || input.peek::<If>())))))
 }
 
 // ---- by their parts

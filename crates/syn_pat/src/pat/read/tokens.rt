@@ -27,9 +27,9 @@ fn sees_named_path(input: &ParseStream<'_>) -> bool
     ensures { result ≡ reading.sees_named_path input.now.rest }
 {
     input.peek::<Ident>()
-        & (input.peek2::<PathSep>()
-            | (input.peek2::<Not>()
-                | (input.peek2::<Brace>() | (input.peek2::<Paren>() | input.peek2::<DotDot>()))))
+        && (input.peek2::<PathSep>()
+            || (input.peek2::<Not>()
+                || (input.peek2::<Brace>() || (input.peek2::<Paren>() || input.peek2::<DotDot>()))))
 }
 
 /// Whether `self` and `::` are at the front.
@@ -37,7 +37,7 @@ fn sees_named_path(input: &ParseStream<'_>) -> bool
 fn sees_self_path(input: &ParseStream<'_>) -> bool
     ensures { result ≡ reading.sees_self_path input.now.rest }
 {
-    input.peek::<SelfValue>() & input.peek2::<PathSep>()
+    input.peek::<SelfValue>() && input.peek2::<PathSep>()
 }
 
 /// Whether a pattern that begins with a path does so here.
@@ -46,11 +46,11 @@ pub(crate) fn begins_path(input: &ParseStream<'_>) -> bool
     ensures { result ≡ reading.begins_path input.now.rest }
 {
     sees_named_path(input)
-        | (sees_self_path(input)
-            | (input.peek::<PathSep>()
-                | (input.peek::<Lt>()
-                    | (input.peek::<SelfType>()
-                        | (input.peek::<Super>() | input.peek::<Crate>())))))
+        || (sees_self_path(input)
+            || (input.peek::<PathSep>()
+                || (input.peek::<Lt>()
+                    || (input.peek::<SelfType>()
+                        || (input.peek::<Super>() || input.peek::<Crate>())))))
 }
 
 /// Whether a literal, perhaps after `-`, or a const block begins here.
@@ -58,7 +58,7 @@ pub(crate) fn begins_path(input: &ParseStream<'_>) -> bool
 pub(crate) fn begins_bound(input: &ParseStream<'_>) -> bool
     ensures { result ≡ reading.begins_bound input.now.rest }
 {
-    input.peek::<Minus>() | (input.peek::<Lit>() | input.peek::<Const>())
+    input.peek::<Minus>() || (input.peek::<Lit>() || input.peek::<Const>())
 }
 
 /// Whether a binding begins here.
@@ -67,7 +67,7 @@ pub(crate) fn begins_binding(input: &ParseStream<'_>) -> bool
     ensures { result ≡ reading.begins_binding input.now.rest }
 {
     input.peek::<Ref>()
-        | (input.peek::<Mut>() | (input.peek::<SelfValue>() | input.peek::<Ident>()))
+        || (input.peek::<Mut>() || (input.peek::<SelfValue>() || input.peek::<Ident>()))
 }
 
 /// Whether a `..` that is not `...` is at the front.
@@ -75,7 +75,7 @@ pub(crate) fn begins_binding(input: &ParseStream<'_>) -> bool
 pub(crate) fn sees_half_open(input: &ParseStream<'_>) -> bool
     ensures { result ≡ reading.sees_half_open input.now.rest }
 {
-    input.peek::<DotDot>() & !input.peek::<DotDotDot>()
+    input.peek::<DotDot>() && !input.peek::<DotDotDot>()
 }
 
 /// Whether a `|` that is neither `||` nor `|=` is at the front.
@@ -83,7 +83,7 @@ pub(crate) fn sees_half_open(input: &ParseStream<'_>) -> bool
 pub(crate) fn sees_vert(input: &ParseStream<'_>) -> bool
     ensures { result ≡ reading.sees_vert input.now.rest }
 {
-    input.peek::<Or>() & (!input.peek::<OrOr>() & !input.peek::<OrEq>())
+    input.peek::<Or>() && (!input.peek::<OrOr>() && !input.peek::<OrEq>())
 }
 
 // ---- tokens: each read says that something was taken
