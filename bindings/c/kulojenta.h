@@ -22,8 +22,12 @@ enum {
 enum {
     KULOJENTA_NO_READER = 1,
     KULOJENTA_NOT_UTF8 = 2,
-    KULOJENTA_OUT_OF_MEMORY = 16
+    KULOJENTA_OUT_OF_MEMORY = 16,
+    KULOJENTA_NESTED_TOO_DEEP = 50
 };
+
+/* The levels that a text may go down where its caller knows no better: so many fit in a stack of 2 MB. Code as it is written goes down fewer than 30. */
+enum { KULOJENTA_LIMIT = 128 };
 
 typedef struct {
     size_t bytes;  /* how long the text is: so many bytes were written, or are wanted */
@@ -33,8 +37,9 @@ typedef struct {
 } kulojenta_report;
 
 /* Reads all of a text by the reader of this name (docs/READERS.txt), where all tokens stand for an expression, and writes the text of the print of what
-   was read to out, or why there is none. */
-uint32_t kulojenta_read(const uint8_t *reader, size_t reader_len, const uint8_t *text, size_t text_len, uint8_t *out, size_t out_len,
+   was read to out, or why there is none. A text that goes down more levels than the limit is refused as nested too deep, at the first token that passes
+   it (KULOJENTA_LIMIT; a group takes a level, an open `<` three, and so on: nesting of token_core). With a higher limit the caller sees to the stack. */
+uint32_t kulojenta_read(const uint8_t *reader, size_t reader_len, const uint8_t *text, size_t text_len, size_t limit, uint8_t *out, size_t out_len,
                         kulojenta_report *report);
 
 /* Writes `NAME:LINE:COLUMN: MESSAGE`, the line of the text, and marks under the place from start to end, to out. */

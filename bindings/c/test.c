@@ -8,7 +8,17 @@ static kulojenta_report report;
 
 static uint32_t reads(const char *reader, const char *text, size_t room) {
     memset(out, '.', sizeof out);
-    return kulojenta_read((const uint8_t *)reader, strlen(reader), (const uint8_t *)text, strlen(text), out, room, &report);
+    return kulojenta_read((const uint8_t *)reader, strlen(reader), (const uint8_t *)text, strlen(text), KULOJENTA_LIMIT, out, room, &report);
+}
+
+/* A type in so many parentheses. */
+static uint32_t reads_within(size_t levels, size_t limit) {
+    static uint8_t text[2001];
+    memset(text, '(', levels);
+    text[levels] = 'A';
+    memset(text + levels + 1, ')', levels);
+    memset(out, '.', sizeof out);
+    return kulojenta_read((const uint8_t *)"Type", 4, text, 2 * levels + 1, limit, out, sizeof out, &report);
 }
 
 static uint32_t notes(const char *text, const char *message, size_t start, size_t end) {
@@ -48,6 +58,9 @@ int main(void) {
     wrong += is(reads("Foo", "m!", 256) == KULOJENTA_UNKNOWN_READER && says("unknown reader") && at(KULOJENTA_NO_READER, 0, 0), "no reader");
     wrong += is(reads("\xff", "m!", 256) == KULOJENTA_UNKNOWN_READER && says("unknown reader"), "no name");
     wrong += is(reads("Macro", "m!(\xff)", 256) == KULOJENTA_REFUSED && says("input is not UTF-8") && at(KULOJENTA_NOT_UTF8, 0, 0), "no text");
+    wrong += is(reads_within(2, 2) == KULOJENTA_SHOWN && says("((A))"), "a text at the limit");
+    wrong += is(reads_within(2, 1) == KULOJENTA_REFUSED && says("nested too deep") && at(KULOJENTA_NESTED_TOO_DEEP, 1, 2), "a text above the limit");
+    wrong += is(reads_within(1000, KULOJENTA_LIMIT) == KULOJENTA_REFUSED && at(KULOJENTA_NESTED_TOO_DEEP, 128, 129), "a deep text");
     wrong += is(notes("a\nb c\n", "unexpected token", 4, 5) == KULOJENTA_SHOWN && says("a.rs:2:3: unexpected token\nb c\n  ^"), "a note");
     printf("%d of %d calls\n", count - wrong, count);
     return wrong != 0;

@@ -11,8 +11,8 @@
 //! assert_eq!((refusal.start(), refusal.end()), (9, 10));
 //! ```
 //!
-//! Types in types take calls within calls, so that deep nesting takes stack: see *Limits* in the README of the repository. A thread of Rust has 2 MB
-//! unless it asks for more.
+//! Types in types take calls within calls, so that deep nesting takes stack. `read` refuses what goes down more than [`LIMIT`] levels, which fits in the 2 MB
+//! that a thread of Rust has; `read_within` takes another limit.
 
 use std::error::Error;
 use std::fmt;
@@ -34,6 +34,10 @@ const SHOWN: u32 = 0;
 const ROOM_IS_SHORT: u32 = 3;
 const UNKNOWN_READER: u32 = 1;
 const OUT_OF_MEMORY: u32 = 16;
+const NESTED_TOO_DEEP: u32 = 50;
+
+/// How many levels a text may go down for `read`: a group takes one, an open `<` three, a `&` one, and so on. Code as it is written goes down fewer than 30.
+pub const LIMIT: usize = 128;
 
 extern "C" {
     fn kulojenta_read(
@@ -41,6 +45,7 @@ extern "C" {
         reader_len: usize,
         text: *const u8,
         text_len: usize,
+        limit: usize,
         out: *mut u8,
         out_len: usize,
         report: *mut Report,
@@ -96,6 +101,11 @@ impl Refusal {
         self.kind == OUT_OF_MEMORY
     }
 
+    /// The text goes down more levels than the limit, and this is the first token that does.
+    pub fn is_nested_too_deep(&self) -> bool {
+        self.kind == NESTED_TOO_DEEP
+    }
+
     /// For people: `NAME:LINE:COLUMN: MESSAGE`, the line of the text, and marks under the place. `name` is the text's, such as that of its file, and `text`
     /// the one that was read.
     pub fn note(&self, name: &str, text: &str) -> String {
@@ -134,8 +144,13 @@ impl fmt::Display for Refusal {
 impl Error for Refusal {}
 
 /// Reads all of a text by the reader of this name (`docs/READERS.txt` lists all), and answers the text of the print of what was read. All tokens
-/// stand for an expression.
+/// stand for an expression. A text that goes down more than `LIMIT` levels is refused.
 pub fn read(reader: &str, text: &str) -> Result<String, Refusal> {
+    read_within(reader, text, LIMIT)
+}
+
+/// The same within another limit. Where it is above `LIMIT` the caller sees to the stack: without one the process ends.
+pub fn read_within(reader: &str, text: &str, limit: usize) -> Result<String, Refusal> {
     let call = |out: &mut [u8], report: &mut Report| {
         // (each slice lives as long as the call, which reads the first two and writes the others)
         unsafe {
@@ -144,6 +159,7 @@ pub fn read(reader: &str, text: &str) -> Result<String, Refusal> {
                 reader.len(),
                 text.as_ptr(),
                 text.len(),
+                limit,
                 out.as_mut_ptr(),
                 out.len(),
                 report,

@@ -10,8 +10,11 @@ use syn_run::channel::{Plain, Source};
 use syn_run::complaint::complaint;
 use syn_run::fault::Fault;
 use syn_run::readers::Reader;
-use syn_run::run::read_text;
+use syn_run::run::read_text_within;
 use syn_verbatim::expr::VerbatimExpr;
+
+/// How many levels a text may go down: so many fit in a stack of 2 MB.
+const LIMIT: usize = 128;
 
 fn main(rt: HostRuntime) -> io::Result<ExitCode> {
     let words: Vec<String> = env::args(&rt)?.collect(rt.alloc())?;
@@ -66,7 +69,7 @@ fn read<R: Source>(
     let Ok(text) = str::from_utf8(&bytes) else {
         return complain(rt, name, "", &Fault::NotUtf8);
     };
-    match read_text::<VerbatimExpr>(rt.alloc(), reader, text) {
+    match read_text_within::<VerbatimExpr>(rt.alloc(), reader, text, LIMIT) {
         Ok(shown) => {
             println!(rt; "{shown}")?;
             Ok(ExitCode::SUCCESS)

@@ -1,13 +1,15 @@
 -- What a run promises, of an input and an output whose bytes are known or not.
-use Rattle.std.specs.Prelude.{◌≡◌, ◌⊎◌, ℕ, List, ◌++◌, Option, Some, None, IfSome, Result, Ok, Err, codes, IsUtf8}
+use Rattle.std.specs.Prelude.{◌≡◌, ◌⊎◌, ℕ, List, ◌++◌, Option, Some, None, IfSome, Result, Ok, Err, MatchResult, codes, IsUtf8}
 use Rattle.token_core.specs.declared.tree.TokenTree.{TokenTree}
 use Rattle.token_core.specs.Toks.{Bytes, done}
 use Rattle.token_core.specs.Trees.{row, stream_of_trees}
-use Rattle.token_core.specs.Refusal.{Refusal}
+use Rattle.token_core.specs.Levels.{too_deep}
+use Rattle.token_core.specs.Refusal.{Refusal, named, out_of_memory}
 use Rattle.token_core.specs.Rebuilt.{Visible}
 use Rattle.token_core.specs.Spans.{none}
 use Rattle.token_core.specs.declared.span.Span.{Span}
-use Rattle.token_core.specs.declared.error.ErrorKind.TheVariants.{OutOfMemory}
+use Rattle.token_core.specs.declared.error.ErrorKind.TheVariants.{OutOfMemory, NestedTooDeep}
+use Rattle.token_text.specs.Depth.{IsTooDeep}
 use Rattle.token_text.specs.Spelling.{Spells, Refused}
 use Rattle.token_text.specs.Printing.{text_of}
 use Rattle.syn_run.specs.declared.readers.Reader.{Reader}
@@ -116,6 +118,14 @@ AnswersBy C bytes (Err e) a = e.kind ≡ OutOfMemory
 pub record Replies {A S : Type 0} (C : Category A) (scope : Span) (text : Bytes) (bytes : S → Bytes) (answer : Result S Refusal) : Type 0 where
   pub justified : JustifiedBy C scope text bytes answer
   pub accepts : (l : List TokenTree) (a : A) → IsTextOf text l → Visible (row l done) → C.clear a (row l done) → AnswersBy C bytes answer a
+
+-- The same within a limit (`token_core/specs/Levels.antt`): a text that nests deeper is refused at the first token that passes it, and any other one is answered as
+-- without a limit. One that spells no list may be refused so for what stands before what is none.
+pub record RepliesWithin {A S : Type 0} (limit : ℕ) (C : Category A) (scope : Span) (text : Bytes) (bytes : S → Bytes) (answer : Result S Refusal) : Type 0 where
+  pub deep : (l : List TokenTree) (s : Span) → IsTextOf text l → too_deep limit (stream_of_trees l) ≡ Some s →
+      MatchResult answer (λ _. ⊥) (λ e. (e ≡ out_of_memory) ⊎ (e ≡ named NestedTooDeep s))
+  pub within : (l : List TokenTree) → IsTextOf text l → too_deep limit (stream_of_trees l) ≡ None → Replies C scope text bytes answer
+  pub no_list : (e : Refusal) → Refused text e → MatchResult answer (λ _. ⊥) (λ f. RefusedFor C scope text f ⊎ IsTooDeep f)
 
 -- ---- a run
 

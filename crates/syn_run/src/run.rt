@@ -15,7 +15,7 @@ use crate::readers::Reader;
 use std::alloc::Global;
 use syn_path::supplied::Subtree;
 use token_core::{Error, Span, TokenStream};
-use token_text::{lex, text_of};
+use token_text::{check_text, lex, text_of};
 
 /// Reads all of the input by the reader of this name, and writes one line: the text of the print of what was read, or
 /// `error: ` and why there is none. Answers the status: 0, or 2 for an unknown name, for which nothing is read, or 1.
@@ -83,6 +83,20 @@ pub fn read_text<X: Subtree>(alloc: Global, reader: Reader, text: &str) -> Resul
     ensures { spec.Replies (category X.Subtree reader) (text_end text.now) text.now string_bytes result }
 {
     reprinted::<X>(alloc, reader, Span::new(text.len(), text.len()), text)
+}
+
+/// `read_text` of a text that nests no deeper than a limit (`token_core::nesting`). Another one is refused (`NestedTooDeep`) at the first
+/// token that passes it, before anything goes down the text by calls within calls.
+pub fn read_text_within<X: Subtree>(
+    alloc: Global,
+    reader: Reader,
+    text: &str,
+    limit: usize,
+) -> Result<String, Error>
+    ensures { spec.RepliesWithin limit (category X.Subtree reader) (text_end text.now) text.now string_bytes result }
+{
+    check_text(alloc, text, limit)?;
+    read_text::<X>(alloc, reader, text)
 }
 
 /// The text of the print of what a reader reads of a text in a scope.
