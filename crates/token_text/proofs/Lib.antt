@@ -12,8 +12,9 @@ mod CommentLaws
 mod Steps
 mod CharacterLaws
 mod PieceLaws
-mod TextLaws
+pub mod TextLaws
 mod StringLaws
 mod WholeLaws
 mod MovingLaws
 mod Escapes
+mod DepthLaws

@@ -3,6 +3,7 @@
 
 mod class;
 mod comment;
+mod depth;
 mod escape;
 mod front;
 mod lexer;
@@ -18,6 +19,7 @@ mod string;
 mod whole;
 mod word;
 
+pub use depth::check_text;
 pub use lexer::lex;
 pub use lit_str::{lit_str_value, read_lit_str, read_lit_str_with};
 pub use notes::{note, note_at, place_of};
