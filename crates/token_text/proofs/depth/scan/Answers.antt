@@ -1,7 +1,11 @@
-use Rattle.std.proofs.Common.{◌≡◌, ◌<◌, ◌+◌, ◌-◌, ◌≤◌, false, true, length, chars, rules, arith, ap, sym, ◌∙◌}
+use Rattle.std.proofs.Common.{◌≡◌, ◌<◌, ◌+◌, ◌-◌, ◌≤◌, false, true, length, chars, rules, arith, refl, ap, sym, subst, ◌∙◌}
 use Rattle.std.specs.Prelude.{nat_lt}
 use Rattle.std.proofs.lemmas.Result.{err_from_is_err_and}
-use Rattle.token_text.specs.Depth.{after_piece}
+use Rattle.token_core.specs.declared.error.ErrorKind.TheVariants.{NestedTooDeep}
+use Rattle.token_core.specs.Levels.{State}
+use Rattle.token_core.specs.Refusal.{named, Stored}
+use Rattle.token_core.specs.Spans.{span}
+use Rattle.token_text.specs.Depth.{after_piece, place}
 use Rattle.token_text.specs.Reading.{reads, lexed, start}
 use Rattle.token_text.proofs.Steps.{blanks_go, front_refused}
 use Rattle.token_text.proofs.DepthLaws.{Reached, reached_first, reached_end, reached_fault, reached_more, reached_limit, reached_blanks, look_less, no_memory}
@@ -31,8 +35,40 @@ loop-first-smaller c =
     let less = look_less c.loop-first.rest.now c.in-Ok.after.now c.in-Ok.piece f.0 f.1 in
     omega (arith, less, past_le c.after_blanks-rest-in-Ok.ensures.past)
 
+pub returns-then-here-limit : goal.returns-then-here-limit
+returns-then-here-limit c =
+    let text = c.args.text.now in
+    let rest = c.loop-first.rest.now in
+    let after = c.in-Ok.after.now in
+    let f = c.in-Ok.ensures in
+    let i = c.loop-first.invariant in
+    let limit = c.args.limit in
+    let above : nat_lt limit (after_piece c.in-Ok.piece c.up_to.result.now c.loop-first.levels).here ≡ true =
+    ap (λ (y : State). nat_lt limit y.here) (sym c.in_ok-take-in-Ok.ensures) ∙ ap (nat_lt limit) (sym c.here.ensures) ∙ c.if-here-limit.true in
+    let stored : Stored c.named.result (named NestedTooDeep (place c.in-Ok.piece c.new-span.result)) =
+    subst (λ s. Stored c.named.result (named NestedTooDeep s)) c.place.ensures c.named.ensures.stored in
+    reached_limit limit text rest after c.in-Ok.piece c.loop-first.levels i.1 f.0 f.1 c.new-span.result c.up_to.result.now c.up_to.ensures c.new-span.ensures
+    (lexed text) refl i.2 above c.named.result stored
+
 pub loop-first-preserved : goal.loop-first-preserved
-loop-first-preserved c = ?
+loop-first-preserved c =
+    let text = c.args.text.now in
+    let rest = c.loop-first.rest.now in
+    let after = c.in-Ok.after.now in
+    let f = c.in-Ok.ensures in
+    let i = c.loop-first.invariant in
+    let b = c.after_blanks-rest-in-Ok.ensures in
+    let limit = c.args.limit in
+    let within : nat_lt limit (after_piece c.in-Ok.piece c.up_to.result.now c.loop-first.levels).here ≡ false =
+    ap (λ (y : State). nat_lt limit y.here) (sym c.in_ok-take-in-Ok.ensures) ∙ ap (nat_lt limit) (sym c.here.ensures) ∙ c.if-here-limit.false in
+    let le : length after ≤ length text = omega (arith, i.1, look_less rest after c.in-Ok.piece f.0 f.1) in
+    let goes = reached_more limit text rest after c.in-Ok.piece c.loop-first.levels i.1 f.0 f.1 (span (length text - length rest) (length text - length after)) c.up_to.result.now
+    c.up_to.ensures refl (lexed text) refl i.2 within in (
+      search rules,
+      omega (arith, le, past_le b.past),
+      reached_blanks limit text after c.after_blanks-rest-in-Ok.result.now (lexed text) c.take.new.levels refl le b.past b.rest
+      (subst (λ y. Reached limit (lexed text) (length text - length after) (chars after) y) (sym c.in_ok-take-in-Ok.ensures) goes),
+    )
 
 pub returns-in-Err : goal.returns-in-Err
 returns-in-Err c =
