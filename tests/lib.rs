@@ -71,6 +71,8 @@ mod options;
 #[cfg(test)]
 mod options_tests;
 #[cfg(test)]
+mod pat_front_tests;
+#[cfg(test)]
 mod pat_tests;
 #[cfg(test)]
 mod path_front_tests;
@@ -102,6 +104,8 @@ mod text_tests;
 mod token_tests;
 #[cfg(test)]
 mod type_attr_tests;
+#[cfg(test)]
+mod type_front_tests;
 #[cfg(test)]
 mod type_tests;
 #[cfg(test)]

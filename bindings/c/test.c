@@ -1,20 +1,30 @@
 /* What the readers answer to C. */
 #include "kulojenta.h"
+#include <pthread.h>
 #include <stdio.h>
 #include <string.h>
+
+#define THREADS 8
+#define ROUNDS 500
 
 static uint8_t out[256];
 static kulojenta_report report;
 
+static const uint8_t *bytes(const char *text) { return (const uint8_t *)text; }
+
 static uint32_t reads(const char *reader, const char *text, size_t room) {
     memset(out, '.', sizeof out);
-    return kulojenta_read((const uint8_t *)reader, strlen(reader), (const uint8_t *)text, strlen(text), out, room, &report);
+    return kulojenta_read(bytes(reader), strlen(reader), bytes(text), strlen(text), out, room, &report);
 }
 
 static uint32_t notes(const char *text, const char *message, size_t start, size_t end) {
     memset(out, '.', sizeof out);
-    return kulojenta_note((const uint8_t *)"a.rs", 4, (const uint8_t *)text, strlen(text), (const uint8_t *)message, strlen(message), start, end, out,
-                          sizeof out, &report);
+    return kulojenta_note(bytes("a.rs"), 4, bytes(text), strlen(text), bytes(message), strlen(message), start, end, out, sizeof out, &report);
+}
+
+static uint32_t names(size_t index, size_t room) {
+    memset(out, '.', sizeof out);
+    return kulojenta_reader(index, out, room, &report);
 }
 
 /* The text of the report is this one, and stands in front of what was there. */
@@ -35,20 +45,101 @@ static int is(int holds, const char *what) {
     return !holds;
 }
 
+/* ---- pointers that are NULL */
+
+/* Whether a call that answered this wrote nothing, no report either. */
+static int is_null(uint32_t status) { return status == KULOJENTA_NULL && out[0] == '.' && report.bytes == 99; }
+
+static int null_pointers(void) {
+    int wrong = 0;
+    wrong += is(kulojenta_read(bytes("Type"), 4, bytes("A<B>"), 4, NULL, 0, &report) == KULOJENTA_ROOM_IS_SHORT && report.bytes == 7, "out NULL, for its length");
+    wrong += is(kulojenta_note(bytes("a"), 1, bytes("b"), 1, bytes("c"), 1, 0, 1, NULL, 0, &report) == KULOJENTA_ROOM_IS_SHORT, "the same of a note");
+    wrong += is(kulojenta_reader(0, NULL, 0, &report) == KULOJENTA_ROOM_IS_SHORT && report.bytes == 5, "the same of a name");
+    memset(out, '.', sizeof out);
+    wrong += is(kulojenta_read(bytes("Generics"), 8, NULL, 0, out, 9, &report) == KULOJENTA_SHOWN && says(""), "a text NULL that is empty");
+    wrong += is(kulojenta_read(NULL, 0, NULL, 0, out, 99, &report) == KULOJENTA_UNKNOWN_READER && says("unknown reader"), "a reader NULL that is empty");
+    memset(out, '.', sizeof out);
+    report.bytes = 99;
+    wrong += is(is_null(kulojenta_read(bytes("Type"), 4, bytes("A"), 1, out, 9, NULL)), "a report NULL");
+    wrong += is(is_null(kulojenta_read(bytes("Type"), 4, bytes("A"), 1, NULL, 9, &report)), "out NULL");
+    wrong += is(is_null(kulojenta_read(bytes("Type"), 4, NULL, 1, out, 9, &report)), "a text NULL");
+    wrong += is(is_null(kulojenta_read(NULL, 4, bytes("A"), 1, out, 9, &report)), "a reader NULL");
+    wrong += is(is_null(kulojenta_note(NULL, 1, bytes("b"), 1, bytes("c"), 1, 0, 1, out, 9, &report)), "a name NULL");
+    wrong += is(is_null(kulojenta_note(bytes("a"), 1, NULL, 1, bytes("c"), 1, 0, 1, out, 9, &report)), "a note's text NULL");
+    wrong += is(is_null(kulojenta_note(bytes("a"), 1, bytes("b"), 1, NULL, 1, 0, 1, out, 9, &report)), "a message NULL");
+    wrong += is(is_null(kulojenta_note(bytes("a"), 1, bytes("b"), 1, bytes("c"), 1, 0, 1, NULL, 9, &report)), "a note's out NULL");
+    wrong += is(is_null(kulojenta_note(bytes("a"), 1, bytes("b"), 1, bytes("c"), 1, 0, 1, out, 9, NULL)), "a note's report NULL");
+    wrong += is(is_null(kulojenta_reader(0, NULL, 9, &report)) && is_null(kulojenta_reader(0, out, 9, NULL)), "the same of a reader's name");
+    return wrong;
+}
+
+/* ---- threads */
+
+/* Each thread reads these over and over, and some are refused; it counts what is not as it should be. */
+static const struct {
+    const char *reader, *text, *said;
+    uint32_t status;
+} TEXTS[] = {
+    {"Type", "Map<K, Box<dyn Fn(&K) -> V + Send>>", "Map < K , Box < dyn Fn (& K) -> V + Send > >", KULOJENTA_SHOWN},
+    {"Macro", "a::b!{x y}", "a :: b ! { x y }", KULOJENTA_SHOWN},
+    {"Generics", "<T: 'a + Copy, const N: usize = 3>", "< T : 'a + Copy , const N : usize = 3 >", KULOJENTA_SHOWN},
+    {"Type", "a b", "unexpected token", KULOJENTA_REFUSED},
+    {"Foo", "a", "unknown reader", KULOJENTA_UNKNOWN_READER},
+};
+
+static void *reads_on(void *wrong) {
+    size_t texts = sizeof TEXTS / sizeof *TEXTS;
+    for (size_t i = 0; i < ROUNDS * texts; i++) {
+        uint8_t own[128];
+        kulojenta_report told;
+        const char *reader = TEXTS[i % texts].reader, *text = TEXTS[i % texts].text, *said = TEXTS[i % texts].said;
+        uint32_t status = kulojenta_read(bytes(reader), strlen(reader), bytes(text), strlen(text), own, sizeof own, &told);
+        *(int *)wrong += status != TEXTS[i % texts].status || told.bytes != strlen(said) || memcmp(own, said, told.bytes) != 0;
+    }
+    return NULL;
+}
+
+static int threads(void) {
+    pthread_t thread[THREADS];
+    int wrong[THREADS] = {0}, begun = 0, sum = 0;
+    while (begun < THREADS && pthread_create(&thread[begun], NULL, reads_on, &wrong[begun]) == 0) {
+        begun++;
+    }
+    for (int i = 0; i < begun; i++) {
+        pthread_join(thread[i], NULL);
+        sum += wrong[i];
+    }
+    return is(begun == THREADS && sum == 0, "threads");
+}
+
 int main(void) {
     int wrong = 0;
-    wrong += is(reads("Type", "Vec<T>", 256) == KULOJENTA_SHOWN && says("Vec < T >") && at(0, 0, 0), "a type");
+    wrong += is(kulojenta_version() == KULOJENTA_VERSION, "the version");
+    wrong += is(reads("Type", "Vec<T>", 256) == KULOJENTA_SHOWN && says("Vec < T >") && at(KULOJENTA_NONE, 0, 0), "a type");
     wrong += is(reads("Type", "Vec<T>", 9) == KULOJENTA_SHOWN && says("Vec < T >"), "a print that just fits");
     wrong += is(reads("Type", "Vec<T>", 8) == KULOJENTA_ROOM_IS_SHORT && report.bytes == 9 && out[0] == '.', "a print that is wanted");
     wrong += is(reads("Type", "Vec<T>", 0) == KULOJENTA_ROOM_IS_SHORT && report.bytes == 9 && out[0] == '.', "no room");
     wrong += is(reads("Attribute::parse_outer", "", 0) == KULOJENTA_SHOWN && says(""), "nothing in no room");
     wrong += is(reads("Macro", "m!", 256) == KULOJENTA_REFUSED && says("unexpected end of input, expected delimiter"), "a refusal");
-    wrong += is(report.kind >= KULOJENTA_OUT_OF_MEMORY && report.start == 2 && report.end == 2, "its place");
+    wrong += is(at(KULOJENTA_EXPECTED_DELIMITER, 2, 2), "its kind and place");
     wrong += is(reads("Macro", "m!", 3) == KULOJENTA_ROOM_IS_SHORT && report.start == 2 && out[0] == '.', "a refusal that is wanted");
+    wrong += is(reads("Type", "a b", 256) == KULOJENTA_REFUSED && at(KULOJENTA_UNEXPECTED, 2, 3), "a token that is left over");
+    wrong += is(reads("Type", "dyn 'a", 256) == KULOJENTA_REFUSED && report.kind == KULOJENTA_NO_TRAIT_IN_OBJECT, "an object of lifetimes");
+    wrong += is(reads("Type", "[A", 256) == KULOJENTA_REFUSED && report.kind == KULOJENTA_UNCLOSED_DELIMITER, "an open bracket");
     wrong += is(reads("Foo", "m!", 256) == KULOJENTA_UNKNOWN_READER && says("unknown reader") && at(KULOJENTA_NO_READER, 0, 0), "no reader");
     wrong += is(reads("\xff", "m!", 256) == KULOJENTA_UNKNOWN_READER && says("unknown reader"), "no name");
     wrong += is(reads("Macro", "m!(\xff)", 256) == KULOJENTA_REFUSED && says("input is not UTF-8") && at(KULOJENTA_NOT_UTF8, 0, 0), "no text");
     wrong += is(notes("a\nb c\n", "unexpected token", 4, 5) == KULOJENTA_SHOWN && says("a.rs:2:3: unexpected token\nb c\n  ^"), "a note");
+    wrong += is(names(0, 256) == KULOJENTA_SHOWN && says("Macro") && at(KULOJENTA_NONE, 0, 0), "the first reader");
+    wrong += is(names(0, 4) == KULOJENTA_ROOM_IS_SHORT && report.bytes == 5 && out[0] == '.', "its name, which is wanted");
+    size_t readers = 0;
+    while (names(readers, 256) == KULOJENTA_SHOWN) {
+        readers++;
+    }
+    wrong += is(readers == READERS && says("unknown reader") && at(KULOJENTA_NO_READER, 0, 0), "all readers");
+    wrong += is(names(SIZE_MAX, 256) == KULOJENTA_UNKNOWN_READER, "a reader far behind them");
+    wrong += null_pointers();
+    wrong += threads();
     printf("%d of %d calls\n", count - wrong, count);
     return wrong != 0;
 }

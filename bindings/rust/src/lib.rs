@@ -13,6 +13,13 @@
 //!
 //! Types in types take calls within calls, so that deep nesting takes stack: see *Limits* in the README of the repository. A thread of Rust has 2 MB
 //! unless it asks for more.
+//!
+//! Calls share nothing, so that any number of threads may make them at once; a [`Refusal`] is `Send` and `Sync`. Memory comes from the C library's `malloc`,
+//! whatever the program's global allocator is.
+
+mod kind;
+
+pub use kind::Kind;
 
 use std::error::Error;
 use std::fmt;
@@ -32,8 +39,6 @@ type Call<'a> = &'a dyn Fn(&mut [u8], &mut Report) -> u32;
 
 const SHOWN: u32 = 0;
 const ROOM_IS_SHORT: u32 = 3;
-const UNKNOWN_READER: u32 = 1;
-const OUT_OF_MEMORY: u32 = 16;
 
 extern "C" {
     fn kulojenta_read(
@@ -59,48 +64,57 @@ extern "C" {
         out_len: usize,
         report: *mut Report,
     ) -> u32;
+
+    fn kulojenta_reader(index: usize, out: *mut u8, out_len: usize, report: *mut Report) -> u32;
 }
 
 /// Why a text was not read, and where.
 #[derive(Clone, Debug, PartialEq, Eq)]
+#[must_use]
 pub struct Refusal {
     message: String,
-    kind: u32,
+    kind: Kind,
     start: usize,
     end: usize,
 }
 
 impl Refusal {
     /// From which byte of the text it points; the end of the text, where something is missing there.
+    #[must_use]
     pub fn start(&self) -> usize {
         self.start
     }
 
     /// To which byte of the text it points.
+    #[must_use]
     pub fn end(&self) -> usize {
         self.end
     }
 
-    /// Its number, as `bindings/c/kulojenta.h` says: 1 that there is no such reader, 16 and more of a refusal of the text.
-    pub fn kind(&self) -> u32 {
+    /// What kind of refusal it is.
+    #[must_use]
+    pub fn kind(&self) -> Kind {
         self.kind
     }
 
     /// There is no reader of that name.
+    #[must_use]
     pub fn is_unknown_reader(&self) -> bool {
-        self.kind == UNKNOWN_READER
+        self.kind == Kind::UnknownReader
     }
 
     /// A growth of memory was refused.
+    #[must_use]
     pub fn is_out_of_memory(&self) -> bool {
-        self.kind == OUT_OF_MEMORY
+        self.kind == Kind::OutOfMemory
     }
 
     /// For people: `NAME:LINE:COLUMN: MESSAGE`, the line of the text, and marks under the place; `NAME: MESSAGE` of what has no place in the text. `name`
     /// is the text's, such as that of its file, and `text` the one that was read.
+    #[must_use]
     pub fn note(&self, name: &str, text: &str) -> String {
         let message = &self.message;
-        if self.kind <= OUT_OF_MEMORY {
+        if !self.kind.has_place() {
             return format!("{name}: {message}");
         }
         let call = |out: &mut [u8], report: &mut Report| {
@@ -136,8 +150,13 @@ impl fmt::Display for Refusal {
 
 impl Error for Refusal {}
 
-/// Reads all of a text by the reader of this name (`docs/READERS.txt` lists all), and answers the text of the print of what was read. All tokens
-/// stand for an expression.
+/// Reads all of a text by the reader of this name (`readers` lists all), and answers the text of the print of what was read. All tokens stand for an
+/// expression.
+///
+/// # Errors
+///
+/// The text is refused where it is not of the reader's form: then the refusal says why, and points to the place. It is refused too where there is no
+/// reader of that name, and where memory runs out.
 pub fn read(reader: &str, text: &str) -> Result<String, Refusal> {
     let call = |out: &mut [u8], report: &mut Report| {
         // (each slice lives as long as the call, which reads the first two and writes the others)
@@ -157,10 +176,28 @@ pub fn read(reader: &str, text: &str) -> Result<String, Refusal> {
         (SHOWN, shown, _) => Ok(shown),
         (_, message, report) => Err(Refusal {
             message,
-            kind: report.kind,
+            kind: Kind::of(report.kind),
             start: report.start,
             end: report.end,
         }),
+    }
+}
+
+/// The names of all readers; `docs/READERS.txt` says what each reads.
+#[must_use]
+pub fn readers() -> Vec<String> {
+    (0..).map_while(reader).collect()
+}
+
+/// The name of the reader that stands there in the list of them.
+fn reader(index: usize) -> Option<String> {
+    let call = |out: &mut [u8], report: &mut Report| {
+        // (the slice lives as long as the call, which writes both)
+        unsafe { kulojenta_reader(index, out.as_mut_ptr(), out.len(), report) }
+    };
+    match told(&call, 60) {
+        (SHOWN, name, _) => Some(name),
+        _ => None,
     }
 }
 

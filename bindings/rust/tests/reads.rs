@@ -1,12 +1,13 @@
 //! What the readers answer through C.
 
-use kulojenta::read;
+use kulojenta::{read, readers, Kind, Refusal};
+use std::thread;
 
 /// What was read, or the refusal with its place.
 fn said(reader: &str, text: &str) -> String {
     match read(reader, text) {
         Ok(shown) => shown,
-        Err(it) => format!("{it} at {}..{} ({})", it.start(), it.end(), it.kind()),
+        Err(it) => format!("{it} at {}..{} ({:?})", it.start(), it.end(), it.kind()),
     }
 }
 
@@ -38,7 +39,7 @@ fn texts_are_read() {
 fn refusals_say_where() {
     for (reader, text, wanted) in [
         ("Type", "Vec<", "unexpected end of input"),
-        ("Type", "a b", "unexpected token at 2..3"),
+        ("Type", "a b", "unexpected token at 2..3 (Unexpected)"),
         ("Type", "(é, \"", "unterminated literal or comment at 5..6"),
         (
             "Macro",
@@ -46,14 +47,56 @@ fn refusals_say_where() {
             "unexpected end of input, expected delimiter at 2..2",
         ),
         ("Macro", "", "unexpected end of input"),
-        ("Foo", "a", "unknown reader at 0..0 (1)"),
-        ("Type ", "a", "unknown reader at 0..0 (1)"),
+        ("Foo", "a", "unknown reader at 0..0 (UnknownReader)"),
+        ("Type ", "a", "unknown reader at 0..0 (UnknownReader)"),
     ] {
         let said = said(reader, text);
         assert!(said.starts_with(wanted), "{reader} of {text}: {said}");
     }
     assert!(read("Foo", "a").unwrap_err().is_unknown_reader());
     assert!(!read("Type", "").unwrap_err().is_out_of_memory());
+}
+
+#[test]
+fn kinds_have_names() {
+    let kind = |reader, text| read(reader, text).unwrap_err().kind();
+    assert_eq!(kind("Foo", "a"), Kind::UnknownReader);
+    assert_eq!(kind("Type", "[A"), Kind::UnclosedDelimiter);
+    assert_eq!(kind("Type", "dyn 'a"), Kind::NoTraitInObject);
+    assert_eq!(kind("Type", "impl 'a"), Kind::NoTraitInImpl);
+    assert_eq!(kind("Type", "\""), Kind::UnterminatedToken);
+}
+
+#[test]
+fn readers_are_listed() {
+    let readers = readers();
+    assert_eq!(readers[0], "Macro");
+    assert!(readers.contains(&"Pat::parse_multi".to_string()));
+    for reader in &readers {
+        let refusal = read(reader, "\"").unwrap_err();
+        assert!(!refusal.is_unknown_reader(), "{reader}");
+    }
+}
+
+#[test]
+fn threads_read_at_once() {
+    fn are_shared<T: Send + Sync>() {}
+    are_shared::<Refusal>();
+    are_shared::<Kind>();
+    let threads = (0..8).map(|_| {
+        thread::spawn(|| {
+            for _ in 0..300 {
+                assert_eq!(
+                    read("Type", "Map<K, [u8; 2]>").unwrap(),
+                    "Map < K , [u8 ; 2] >"
+                );
+                assert_eq!(read("Type", "a b").unwrap_err().start(), 2);
+            }
+        })
+    });
+    for it in threads.collect::<Vec<_>>() {
+        it.join().unwrap();
+    }
 }
 
 #[test]

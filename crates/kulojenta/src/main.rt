@@ -4,6 +4,7 @@
 use clap::{Arg, ArgMatches, Command};
 use std::alloc::{AllocError, Global};
 use std::fs::File;
+use std::io::ErrorKind;
 use std::process::ExitCode;
 use std::{env, io};
 use syn_run::channel::{Plain, Source};
@@ -13,12 +14,33 @@ use syn_run::readers::Reader;
 use syn_run::run::read_text;
 use syn_verbatim::expr::VerbatimExpr;
 
-fn main(rt: HostRuntime) -> io::Result<ExitCode> {
-    let words: Vec<String> = env::args(&rt)?.collect(rt.alloc())?;
-    match command(rt.alloc())?.try_get_matches_from(words.as_slice()) {
-        Ok(matches) => ask(&rt, &matches),
+/// The status where the command line is no text.
+const WRONG: u8 = 2;
+/// The status where there is no answer, since memory ran out.
+const NO_ANSWER: u8 = 3;
+/// The status where the input can't be read, or the output not be written.
+const UNREAD: u8 = 4;
+
+fn main(rt: HostRuntime) -> ExitCode {
+    match answer(&rt) {
+        Ok(status) => status,
         Err(error) => {
-            error.print(&rt)?;
+            let status = match error.kind() {
+                ErrorKind::InvalidData => WRONG,
+                _ => NO_ANSWER,
+            };
+            say(&rt, "kulojenta", &error, status)
+        }
+    }
+}
+
+/// Reads the command line, and does what it asks.
+fn answer(rt: &HostRuntime) -> io::Result<ExitCode> {
+    let words: Vec<String> = env::args(rt)?.collect(rt.alloc())?;
+    match command(rt.alloc())?.try_get_matches_from(words.as_slice()) {
+        Ok(matches) => Ok(ask(rt, &matches)?),
+        Err(error) => {
+            let _ = error.print(rt);
             Ok(ExitCode::from(error.exit_code() as u8))
         }
     }
@@ -37,8 +59,8 @@ fn command<'a>(alloc: Global) -> Result<Command<'a>, AllocError> {
         .arg(file)
 }
 
-/// Does what the command line asks.
-fn ask(rt: &HostRuntime, matches: &ArgMatches<'_>) -> io::Result<ExitCode> {
+/// Reads the file that the command line names, or the standard input.
+fn ask(rt: &HostRuntime, matches: &ArgMatches<'_>) -> Result<ExitCode, AllocError> {
     let name = matches.get_str("READER").unwrap_or("");
     let Some(reader) = Reader::named(name) else {
         return complain(rt, name, "", &Fault::UnknownReader);
@@ -47,7 +69,7 @@ fn ask(rt: &HostRuntime, matches: &ArgMatches<'_>) -> io::Result<ExitCode> {
         None => read(rt, reader, "<stdin>", &mut Plain(rt.reader())),
         Some(path) => match File::open(rt, path) {
             Ok(file) => read(rt, reader, path, &mut Plain(file)),
-            Err(_) => complain(rt, path, "", &Fault::CannotRead),
+            Err(error) => Ok(say(rt, path, &error, UNREAD)),
         },
     }
 }
@@ -58,7 +80,7 @@ fn read<R: Source>(
     reader: Reader,
     name: &str,
     input: &mut R,
-) -> io::Result<ExitCode> {
+) -> Result<ExitCode, AllocError> {
     let bytes = match input.read_all(rt.alloc()) {
         Ok(bytes) => bytes,
         Err(unread) => return complain(rt, name, "", &Fault::from(unread)),
@@ -67,19 +89,13 @@ fn read<R: Source>(
         Ok(text) => after_byte_order_mark(text),
         Err(error) => {
             let fault = Fault::NotUtf8;
-            eprintln!(rt;
-                "{name}: {}, from byte {} on",
-                fault.text(),
-                error.valid_up_to()
-            )?;
+            let from = error.valid_up_to();
+            let _ = eprintln!(rt; "{name}: {}, from byte {from} on", fault.text());
             return Ok(ExitCode::from(fault.status()));
         }
     };
     match read_text::<VerbatimExpr>(rt.alloc(), reader, text) {
-        Ok(shown) => {
-            println!(rt; "{shown}")?;
-            Ok(ExitCode::SUCCESS)
-        }
+        Ok(shown) => Ok(write(rt, shown.as_str())),
         Err(refusal) => complain(rt, name, text, &Fault::from(refusal)),
     }
 }
@@ -92,9 +108,33 @@ fn after_byte_order_mark(text: &str) -> &str {
     }
 }
 
+/// Writes a print as a line. Where nobody reads the output any more, nothing is said of it.
+fn write(rt: &HostRuntime, shown: &str) -> ExitCode {
+    match println!(rt; "{shown}") {
+        Ok(()) => ExitCode::SUCCESS,
+        Err(error) if error.kind() == ErrorKind::BrokenPipe => ExitCode::from(UNREAD),
+        Err(error) => say(rt, "kulojenta: the output can't be written", &error, UNREAD),
+    }
+}
+
 /// Says on the standard error why nothing was read.
-fn complain(rt: &HostRuntime, name: &str, text: &str, fault: &Fault) -> io::Result<ExitCode> {
+fn complain(
+    rt: &HostRuntime,
+    name: &str,
+    text: &str,
+    fault: &Fault,
+) -> Result<ExitCode, AllocError> {
     let said = complaint(rt.alloc(), name, text, fault)?;
-    eprintln!(rt; "{said}")?;
-    Ok(ExitCode::from(fault.status()))
+    let _ = eprintln!(rt; "{said}");
+    Ok(ExitCode::from(match fault {
+        Fault::OutOfMemory => NO_ANSWER,
+        Fault::CannotRead => UNREAD,
+        Fault::UnknownReader | Fault::NotUtf8 | Fault::Refused(_) => fault.status(),
+    }))
+}
+
+/// Says on the standard error of what the system refused why.
+fn say(rt: &HostRuntime, of: &str, error: &io::Error, status: u8) -> ExitCode {
+    let _ = eprintln!(rt; "{of}: {error}");
+    ExitCode::from(status)
 }

@@ -2,14 +2,14 @@
 #![tactic(auto)]
 
 ghost use Rattle.std.specs.Prelude.{◌≡◌};
-ghost use Rattle.syn_run.specs.Calls.{Notes, Reads};
+ghost use Rattle.syn_run.specs.Calls.{Names, Notes, Reads};
 ghost use Rattle.syn_run.specs.Readers.{category};
 ghost use Rattle.syn_run.specs.declared.call.Call.{Call};
 ghost use Rattle.kulojenta_c.specs.Reports.{call_of};
 ghost use Rattle.kulojenta_c.specs.Tokens.{verbatim};
 
 use std::alloc::Global;
-use syn_run::call::{Call, note_into, read_into};
+use syn_run::call::{Call, name_into, note_into, read_into};
 use syn_verbatim::expr::VerbatimExpr;
 
 /// What a call says beside its status and its text; `syn_run::call::Call` says what each number is.
@@ -55,6 +55,22 @@ pub extern "C" fn kulojenta_note(
         note_into(alloc, name, text, message, (start, end), out),
         report,
     )
+}
+
+/// Writes the name of a reader to `out`, of the first by 0, or that there is none. Answers the status.
+#[unsafe(no_mangle)]
+pub extern "C" fn kulojenta_reader(index: usize, out: &mut [u8], report: &mut Report) -> u32
+    ensures { Names index out.old out.new (call_of result report.new) }
+{
+    told(name_into(index, out), report)
+}
+
+/// The version of these functions, which `KULOJENTA_VERSION` of a header that fits them has too.
+#[unsafe(no_mangle)]
+pub extern "C" fn kulojenta_version() -> u32
+    ensures { result ≡ 1 }
+{
+    1
 }
 
 /// Hands on what a call says.

@@ -3,6 +3,7 @@
 ghost use Rattle.std.specs.Prelude.{◌≡◌};
 ghost use Rattle.token_core.specs.Reads.{Gives, Fails};
 ghost use Rattle.token_core.specs.Headline.{Headline};
+ghost use Rattle.token_core.specs.Fronted.{said};
 ghost use Rattle.syn_pat.specs.declared.place.PatPlace.TheVariants.{LeadingVert, Multi, Single};
 ghost use Rattle.syn_pat.specs.pat.Knot as pats;
 ghost use Rattle.syn_pat.specs.pat.Promises as pat_promises;
@@ -46,6 +47,8 @@ impl<X: Subtree> Parser for ParseSingle<X> {
 
     ghost promise = { λ _. Headline (pat_promises.pat X.Subtree Single) };
 
+    ghost fronts = { λ _. said (pat_promises.pat_front X.Subtree Single) };
+
     fn parse(self, alloc: Global, input: &mut ParseStream<'_>) -> Result<Pat<X>, Error> {
         Pat::parse_single(alloc, input)
     }
@@ -76,6 +79,8 @@ impl<X: Subtree> Parser for ParseMulti<X> {
 
     ghost promise = { λ _. Headline (pat_promises.pat X.Subtree Multi) };
 
+    ghost fronts = { λ _. said (pat_promises.pat_front X.Subtree Multi) };
+
     fn parse(self, alloc: Global, input: &mut ParseStream<'_>) -> Result<Pat<X>, Error> {
         Pat::parse_multi(alloc, input)
     }
@@ -105,6 +110,8 @@ impl<X: Subtree> Parser for ParseMultiWithLeadingVert<X> {
     ghost refuses = { λ _. Fails {A = Pat X} (pats.pat X.reads (type_names X.reads) LeadingVert) };
 
     ghost promise = { λ _. Headline (pat_promises.pat X.Subtree LeadingVert) };
+
+    ghost fronts = { λ _. said (pat_promises.pat_front X.Subtree LeadingVert) };
 
     fn parse(self, alloc: Global, input: &mut ParseStream<'_>) -> Result<Pat<X>, Error> {
         Pat::parse_multi_with_leading_vert(alloc, input)

@@ -3,6 +3,7 @@
 ghost use Rattle.std.specs.Prelude.{◌≡◌, false};
 ghost use Rattle.token_core.specs.Reads.{Gives, Fails};
 ghost use Rattle.token_core.specs.Headline.{Headline};
+ghost use Rattle.token_core.specs.Fronted.{said};
 ghost use Rattle.syn_attr.specs.attr.Grammars as grammars;
 ghost use Rattle.syn_attr.specs.attr.Reading as attrs;
 ghost use Rattle.syn_path.specs.path.Grammars as paths;
@@ -11,6 +12,7 @@ ghost use Rattle.syn_forms.specs.declared.places.TypePlace.TheVariants.{NoPlus};
 ghost use Rattle.syn_ty.specs.ty.Reading as types;
 ghost use Rattle.syn_ty.specs.ty.Knot as knot;
 ghost use Rattle.syn_ty.specs.ty.Promises as promises;
+ghost use Rattle.syn_ty.specs.ty.Frontings as frontings;
 ghost use Rattle.syn_generics.specs.generics.Promises as generics_promises;
 ghost use Rattle.syn_generics.specs.generics.Alone as alone;
 
@@ -51,6 +53,8 @@ impl<A: Arguments> Parser for ModStyle<A> {
 
     ghost promise = { λ _. Headline (paths.mod_style A.absent A.shown) };
 
+    ghost fronts = { λ _. said (paths.mod_style_front A.absent A.shown) };
+
     fn parse(self, alloc: Global, input: &mut ParseStream<'_>) -> Result<PathOf<A>, Error> {
         PathOf::parse_mod_style(alloc, input)
     }
@@ -80,6 +84,8 @@ impl<X: Subtree> Parser for ParseOuter<X> {
     ghost refuses = { λ _. Fails (attrs.outer X.reads) };
 
     ghost promise = { λ _. Headline (grammars.outer X.Subtree) };
+
+    ghost fronts = { λ _. said (grammars.outer_front X.Subtree) };
 
     fn parse(
         self,
@@ -114,6 +120,8 @@ impl<X: Subtree> Parser for ParseInner<X> {
     ghost refuses = { λ _. Fails (attrs.inner X.reads) };
 
     ghost promise = { λ _. Headline (grammars.inner X.Subtree) };
+
+    ghost fronts = { λ _. said (grammars.inner_front X.Subtree) };
 
     fn parse(
         self,
@@ -152,6 +160,8 @@ impl<A: Attributes, E: Value> Parser for WithoutPlusOf<A, E> {
 
     ghost promise = { λ _. Headline (promises.ty A.Attributes E.Value NoPlus) };
 
+    ghost fronts = { λ _. said (frontings.ty A.Attributes E.Value NoPlus) };
+
     fn parse(self, alloc: Global, input: &mut ParseStream<'_>) -> Result<TypeOf<A, E>, Error> {
         TypeOf::without_plus(alloc, input)
     }
@@ -184,6 +194,8 @@ impl<A: Attributes, E: Value> Parser for ReturnWithoutPlusOf<A, E> {
     ghost refuses = { λ _. Fails (knot.return_type A.reads E.reads NoPlus) };
 
     ghost promise = { λ _. Headline (promises.return_type A.Attributes E.Value NoPlus) };
+
+    ghost fronts = { λ _. said (frontings.return_type A.Attributes E.Value NoPlus) };
 
     fn parse(
         self,
@@ -222,6 +234,8 @@ impl<A: Attributes, E: Value> Parser for ObjectWithoutPlusOf<A, E> {
 
     ghost promise = { λ _. Headline (promises.trait_object A.Attributes E.Value NoPlus) };
 
+    ghost fronts = { λ _. said (frontings.trait_object A.Attributes E.Value NoPlus) };
+
     fn parse(
         self,
         alloc: Global,
@@ -258,6 +272,8 @@ impl<A: Attributes, E: Value> Parser for ImplWithoutPlusOf<A, E> {
     ghost refuses = { λ _. Fails (knot.impl_trait A.reads E.reads false) };
 
     ghost promise = { λ _. Headline (promises.impl_trait A.Attributes E.Value NoPlus) };
+
+    ghost fronts = { λ _. said (frontings.impl_trait A.Attributes E.Value NoPlus) };
 
     fn parse(
         self,
@@ -296,6 +312,8 @@ impl<A: Attributes, E: Value> Parser for ParseTurbofishOf<A, E> {
 
     ghost promise = { λ _. Headline (promises.turbofish A.Attributes E.Value) };
 
+    ghost fronts = { λ _. said (frontings.turbofish A.Attributes E.Value) };
+
     fn parse(
         self,
         alloc: Global,
@@ -332,6 +350,8 @@ impl<A: Attributes, E: Value> Parser for ParseOptionalLifetimesOf<A, E> {
     ghost refuses = { λ _. Fails (knot.optional_binder A.reads E.reads) };
 
     ghost promise = { λ _. Headline (promises.optional_binder A.Attributes E.Value) };
+
+    ghost fronts = { λ _. said (frontings.optional_binder A.Attributes E.Value) };
 
     fn parse(
         self,
@@ -370,6 +390,8 @@ impl<A: Attributes, E: Value> Parser for ParseOptionalWhereOf<A, E> {
 
     ghost promise = { λ _. Headline (generics_promises.optional_where_clause A.Attributes E.Value) };
 
+    ghost fronts = { λ _. said (generics_promises.optional_where_clause_front A.Attributes E.Value) };
+
     fn parse(
         self,
         alloc: Global,
@@ -401,6 +423,8 @@ impl Parser for ParseOptionalAbi {
     ghost refuses = { λ _. Fails types.optional_abi };
 
     ghost promise = { λ _. Headline promises.optional_abi };
+
+    ghost fronts = { λ _. said frontings.optional_abi };
 
     fn parse(self, alloc: Global, input: &mut ParseStream<'_>) -> Result<Option<Abi>, Error> {
         Abi::parse_optional(alloc, input)

@@ -1,5 +1,5 @@
 -- What a call from C says, and what becomes of the caller's room.
-use Rattle.std.specs.Prelude.{◌≡◌, ◌⊎◌, ◌+◌, ◌<◌, ◌≤◌, ◌++◌, ℕ, Option, Some, None, Result, Ok, Err, drop, length, codes, IsUtf8}
+use Rattle.std.specs.Prelude.{◌≡◌, ◌⊎◌, ◌+◌, ◌<◌, ◌≤◌, ◌++◌, ℕ, [], Option, Some, None, Result, Ok, Err, drop, length, codes, IsUtf8}
 use Rattle.token_core.specs.declared.error.ErrorKind.{ErrorKind}
 use Rattle.token_core.specs.declared.error.ErrorKind.TheVariants.{OutOfMemory, Expected, Unexpected, Custom, ExpectedDelimiter, ExpectedPathSegment, ExpectedPathIdent, ExpectedAttributeArguments, ExpectedParentheses, TokenInAttribute, ExpectedMetaArguments, ExpectedParenthesis, ExpectedMetaValue, ExpectedEquals, AttributeInAttribute, ExpectedNestedAttribute, LiteralInNestedAttribute, TokenInNestedAttribute, UnclosedDelimiter, UnexpectedClosingDelimiter, UnknownToken, UnterminatedToken, DocComment, MalformedNumber, BinderWithQuestion, GenericsOnWhere, CaptureNotAllowed, ConditionalConstNotAllowed, ConstNotAllowed, NoTraitInObject, NoTraitInImpl, RangeWithoutEnd, OpenRangeInSlice, BoundModifiersNotSupported, NestedTooDeep}
 use Rattle.token_core.specs.Toks.{Bytes}
@@ -9,7 +9,7 @@ use Rattle.token_text.specs.Wholes.{text_end}
 use Rattle.syn_readers.specs.Readers.{Category}
 use Rattle.syn_run.specs.declared.call.Call.{Call}
 use Rattle.syn_run.specs.declared.readers.Reader.{Reader}
-use Rattle.syn_run.specs.Table.{named}
+use Rattle.syn_run.specs.Table.{named, name_at}
 use Rattle.syn_run.specs.Run.{Replies}
 
 -- the number of a kind
@@ -138,3 +138,13 @@ IsNote name text message at came = (came ≡ told (note.note name text message a
 abbrev pub Notes : Bytes → Bytes → Bytes → ℕ × ℕ → Bytes → Bytes → Call → Type 0
 Notes name text message at =
     Calls (λ came. ((¬ (IsUtf8 name × IsUtf8 text × IsUtf8 message)) × (came ≡ not_utf8)) ⊎ IsNote name text message at came) text
+
+-- ---- the names of the readers
+
+abbrev pub of_name : Option Bytes → Came
+of_name None = unknown
+of_name (Some name) = told name
+
+-- it is the name of the reader that stands there in the table
+abbrev pub Names : ℕ → Bytes → Bytes → Call → Type 0
+Names index = Calls (λ came. came ≡ of_name (name_at index)) []

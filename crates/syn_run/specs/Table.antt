@@ -1,5 +1,6 @@
 -- The one table of readers, by their names.
-use Rattle.std.specs.Prelude.{if◌then◌else◌, List, [], ◌∷◌, Option, Some, None, codes}
+use Rattle.std.specs.Prelude.{if◌then◌else◌, ℕ, List, [], ◌∷◌, Option, Some, None, map, codes}
+use Rattle.std.specs.List.{slice_get}
 use Rattle.std.specs.Str.{bytes_eq}
 use Rattle.token_core.specs.Toks.{Bytes}
 use Rattle.syn_pat.specs.declared.place.PatPlace.TheVariants.{LeadingVert, Multi, Single}
@@ -85,3 +86,7 @@ first_named name ((it, reader) ∷ more) = if bytes_eq name it then Some reader 
 -- the reader of a name
 unfoldable pub named : Bytes → Option Reader
 named name = first_named name table
+
+-- the name that stands there, from 0
+abbrev pub name_at : ℕ → Option Bytes
+name_at index = slice_get (map (λ r. r.0) table) index

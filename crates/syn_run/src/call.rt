@@ -1,4 +1,4 @@
-//! Calls that are made from C: a text is read, or a note made, into room that the caller gives.
+//! Calls that are made from C: a text is read, a note made, or a reader named, into room that the caller gives.
 
 ghost use Rattle.std.specs.Prelude.{◌≡◌, ◌<◌};
 ghost use Rattle.syn_run.specs.Calls as spec;
@@ -8,6 +8,7 @@ ghost use Rattle.syn_run.specs.declared.call.Call.{Call};
 
 use crate::readers::Reader;
 use crate::run::read_text;
+use crate::table::name_at;
 use std::alloc::Global;
 use syn_path::supplied::Subtree;
 use token_core::ErrorKind;
@@ -127,5 +128,15 @@ fn note_of(
     match note_at(alloc, name, text, message, place.0, place.1) {
         Ok(note) => tell(note.as_str(), 0, 0, (0, 0), out),
         Err(_) => tell("out of memory", 1, 16, (0, 0), out),
+    }
+}
+
+/// Writes the name of the reader that stands there in the table (`name_at`) to the front of the room; where there is none, that.
+pub fn name_into(index: usize, out: &mut [u8]) -> Call
+    ensures { spec.Names index out.old out.new result }
+{
+    match name_at(index) {
+        Some(name) => tell(name, 0, 0, (0, 0), out),
+        None => tell("unknown reader", 2, 1, (0, 0), out),
     }
 }

@@ -1,6 +1,7 @@
 //! The one table of readers, by their names.
 
-ghost use Rattle.std.specs.Prelude.{◌≡◌, map};
+ghost use Rattle.std.specs.Prelude.{◌≡◌, map, option_map};
+ghost use Rattle.std.specs.List.{slice_get};
 ghost use Rattle.syn_run.specs.Table as spec;
 
 use crate::items::ItemReader;
@@ -134,6 +135,24 @@ impl Reader {
         ensures { result ≡ spec.named name.now }
     {
         first_named(&READERS, name)
+    }
+}
+
+/// The name of the reader that stands there in the table, from 0; `None` past its end.
+#[tactic(auto, unfolding(crate::specs::Table::table))]
+pub fn name_at(index: usize) -> Option<&'static str>
+    ensures { option_map (λ n. n.now) result ≡ spec.name_at index }
+{
+    name_in(&READERS, index)
+}
+
+/// The name that stands there in a table.
+fn name_in(table: &[(&'static str, Reader)], index: usize) -> Option<&'static str>
+    ensures { option_map (λ n. n.now) result ≡ slice_get (map (λ r. r.0.now) table.now) index }
+{
+    match table.get(index) {
+        Some((name, _)) => Some(*name),
+        None => None,
     }
 }
 

@@ -1,10 +1,10 @@
 -- Tests of characters.
 use Rattle.std.proofs.Common.{◌≡◌, ℕ, ◌<◌, Bool, true, false, cond, not, ◌&&◌, ◌||◌, ◌==◌, nat_lt, List, [], ◌∷◌, codes, refl, sym, ap, ◌∙◌, subst, arith, lit<}
 use Rattle.std.proofs.lemmas.Bool.Decides.{nat_tests}
-use Rattle.std.specs.Char.{is_ascii_alphabetic, is_ascii_digit}
+use Rattle.std.specs.Char.{is_ascii_alphabetic, is_ascii_alphanumeric, is_ascii_digit}
 use Rattle.std.specs.List.{list_any}
-use Rattle.unicode_ident.proofs.IdentLemmas.{is_xid_start-ascii}
-use Rattle.token_text.specs.Characters.{is_blank, is_mark, is_start}
+use Rattle.unicode_ident.proofs.IdentLemmas.{is_xid_start-ascii, is_xid_continue-ascii}
+use Rattle.token_text.specs.Characters.{is_blank, is_mark, is_letter, is_start, is_continue}
 
 pub same_number : (d c : ℕ) → (d == c) ≡ true → d ≡ c
 same_number d c h = grind (arith, nat_tests)
@@ -41,6 +41,15 @@ listed q c (d ∷ ds) h k =
 pub off : (b : Bool) → not b ≡ true → b ≡ false
 off true h = cc
 off false h = refl
+
+-- of ASCII
+pub letter_ascii : (c : ℕ) → c < 128 → is_ascii_alphabetic c ≡ is_letter c
+unfolding is_letter
+letter_ascii c h = sym (is_xid_start-ascii c h)
+
+pub continue_ascii : (c : ℕ) → c < 128 → (is_ascii_alphanumeric c || (c == 95)) ≡ is_continue c
+unfolding is_continue
+continue_ascii c h = sym (is_xid_continue-ascii c h)
 
 -- neither a letter nor `_`
 abbrev pub no_letter : ℕ → Bool

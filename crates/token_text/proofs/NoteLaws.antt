@@ -30,12 +30,6 @@ cut_whole n (c ∷ cs) =
     let P : Bool → Type 0 = λ b. cond b [] (c ∷ within (n - len_utf8 c) cs) ++ cond b (c ∷ cs) (beyond (n - len_utf8 c) cs) ≡ c ∷ cs in
     let f : P (nat_lt n (len_utf8 c)) = elim (nat_lt n (len_utf8 c)) as P [ true ↦ refl | false ↦ ap (λ t. c ∷ t) (cut_whole (n - len_utf8 c) cs) ] in f
 
-pub beyond_goes : (n : ℕ) (cs ds : Text) (c : ℕ) → cs ≡ c ∷ ds → len_utf8 c ≤ n → beyond n cs ≡ beyond (n - len_utf8 c) ds
-beyond_goes n cs ds c e h = let t : nat_lt n (len_utf8 c) ≡ false = le-ltb n (len_utf8 c) h in rw (e, t) refl
-
-pub beyond_stops : (n : ℕ) (cs ds : Text) (c : ℕ) → cs ≡ c ∷ ds → n < len_utf8 c → beyond n cs ≡ cs
-beyond_stops n cs ds c e h = let t : nat_lt n (len_utf8 c) ≡ true = lt-ltb n (len_utf8 c) h in rw (e, t) refl
-
 -- ---- lines
 
 pub first_line_whole : (cs : Text) → first_line cs ++ line_end cs ≡ cs
@@ -43,12 +37,6 @@ first_line_whole [] = refl
 first_line_whole (c ∷ cs) =
     let P : Bool → Type 0 = λ b. cond b [] (c ∷ first_line cs) ++ cond b (c ∷ cs) (line_end cs) ≡ c ∷ cs in
     let f : P (ends_line c cs) = elim (ends_line c cs) as P [ true ↦ refl | false ↦ ap (λ t. c ∷ t) (first_line_whole cs) ] in f
-
-pub line_goes_on : (cs ds : Text) (c : ℕ) → cs ≡ c ∷ ds → ends_line c ds ≡ false → line_end cs ≡ line_end ds
-line_goes_on cs ds c e h = rw (e, h) refl
-
-pub line_stops : (cs ds : Text) (c : ℕ) → cs ≡ c ∷ ds → ends_line c ds ≡ true → line_end cs ≡ cs
-line_stops cs ds c e h = rw (e, h) refl
 
 reverse-cons : (c : ℕ) (cs : Text) → reverse (c ∷ cs) ≡ reverse cs ++ c ∷ []
 reverse-cons c cs = reverse-append (c ∷ []) cs
@@ -62,9 +50,6 @@ last_line_more f c =
 -- what a line begins with, as far as a text was read
 abbrev pub Begun : Bytes → Bytes → Bytes → Type 0
 Begun text line rest = (f : Text) × (chars text ≡ f ++ chars rest) × (chars line ≡ last_line f ++ chars rest)
-
-pub begun_first : (text : Bytes) → Begun text text text
-begun_first text = ([], refl, refl)
 
 begun_more : (text rest after : Bytes) (f : Text) (c : ℕ) → chars text ≡ f ++ chars rest → chars rest ≡ c ∷ chars after → chars text ≡ (f ++ c ∷ []) ++ chars after
 begun_more text rest after f c e r = e ∙ ap (λ t. f ++ t) r ∙ sym (append_assoc f (c ∷ []) (chars after))
@@ -80,21 +65,6 @@ begun_goes text line rest after c (f, e, l) r other =
     let t : (c == 10) ≡ false = ne_eqb c 10 other in
     let more : last_line (f ++ c ∷ []) ≡ last_line f ++ c ∷ [] = last_line_more f c ∙ ap (λ b. cond b [] (last_line f ++ c ∷ [])) t in
     (f ++ c ∷ [], begun_more text rest after f c e r, l ∙ ap (λ x. last_line f ++ x) r ∙ sym (append_assoc (last_line f) (c ∷ []) (chars after)) ∙ sym (ap (λ x. x ++ chars after) more))
-
-pub begun_ends : (text line rest : Bytes) → Begun text line rest → chars rest ≡ [] → chars line ≡ last_line (chars text)
-begun_ends text line rest (f, e, l) r =
-    let whole : chars text ≡ f = e ∙ ap (λ t. f ++ t) r ∙ append-nil f in
-    l ∙ ap (λ t. last_line f ++ t) r ∙ append-nil (last_line f) ∙ ap last_line (sym whole)
-
-pub feeds_more : (cs ds : Text) (c n m : ℕ) → m ≡ n + line_feeds cs → cs ≡ c ∷ ds → c ≡ 10 → m ≡ (n + 1) + line_feeds ds
-feeds_more cs ds c n m h e feed =
-    let t : (c == 10) ≡ true = eq-eqb c 10 feed in
-    let k : line_feeds cs ≡ 1 + line_feeds ds = rw (e, t) refl in omega (arith, k)
-
-pub feeds_same : (cs ds : Text) (c n m : ℕ) → m ≡ n + line_feeds cs → cs ≡ c ∷ ds → (c ≡ 10 → ⊥) → m ≡ n + line_feeds ds
-feeds_same cs ds c n m h e other =
-    let t : (c == 10) ≡ false = ne_eqb c 10 other in
-    let k : line_feeds cs ≡ 0 + line_feeds ds = rw (e, t) refl in omega (arith, k)
 
 -- ---- the end of the input
 
@@ -165,15 +135,6 @@ length-drawn fill tab (c ∷ cs) =
     length-append (replicate (columns_of c) (cond (c == 9) tab fill)) (drawn fill tab cs)
     ∙ ap (λ n. n + length (drawn fill tab cs)) (length-replicate (columns_of c) (cond (c == 9) tab fill))
     ∙ ap (λ n. columns_of c + n) (length-drawn fill tab cs)
-
--- a step: `out` is what was drawn, and the character's own columns are put after it
-pub drawn_goes : (fill tab mark : ℕ) (cs ds : Text) (c : ℕ) (whole out new : Bytes) → whole ≡ out ++ drawn fill tab cs → cs ≡ c ∷ ds → mark ≡ cond (c == 9) tab fill →
-    new ≡ out ++ replicate (columns_of c) mark → whole ≡ new ++ drawn fill tab ds
-drawn_goes fill tab mark cs ds c whole out new h e m n =
-    h ∙ ap (λ t. out ++ drawn fill tab t) e
-    ∙ ap (λ k. out ++ (replicate (columns_of c) k ++ drawn fill tab ds)) (sym m)
-    ∙ sym (append_assoc out (replicate (columns_of c) mark) (drawn fill tab ds))
-    ∙ ap (λ t. t ++ drawn fill tab ds) (sym n)
 
 pub is_tab : (c x y : ℕ) → c ≡ 9 → x ≡ cond (c == 9) x y
 is_tab c x y h = let t : (c == 9) ≡ true = eq-eqb c 9 h in rw t refl

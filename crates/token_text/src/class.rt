@@ -23,23 +23,46 @@ pub enum Class {
     Blank,
 }
 
-const BLANKS: [char; 4] = [' ', '\t', '\n', '\r'];
-
 const OCTAL: [char; 9] = ['0', '1', '2', '3', '4', '5', '6', '7', '_'];
 
 pub fn is_blank(ch: char) -> bool
     ensures { result ≡ c.is_blank ch }
 {
-    BLANKS.contains(&ch)
+    matches!(ch, ' ' | '\t' | '\n' | '\r')
+}
+
+/// Whether a suffix may begin so. Most are of ASCII, for which no table is asked.
+#[tactic(auto, using(crate::proofs::CharacterLaws::letter_ascii), unfolding(crate::specs::Characters::is_letter))]
+pub fn is_letter(ch: char) -> bool
+    ensures { result ≡ c.is_letter ch }
+{
+    if ch.is_ascii() {
+        ch.is_ascii_alphabetic()
+    } else {
+        unicode_ident::is_xid_start(ch)
+    }
+}
+
+/// Whether a word may go on so.
+#[tactic(auto, using(crate::proofs::CharacterLaws::continue_ascii), unfolding(crate::specs::Characters::is_continue))]
+fn is_continue(ch: char) -> bool
+    ensures { result ≡ c.is_continue ch }
+{
+    if ch.is_ascii() {
+        // `|` in place of `||`, for one value to prove by
+        ch.is_ascii_alphanumeric() | (ch == '_')
+    } else {
+        unicode_ident::is_xid_continue(ch)
+    }
 }
 
 impl Class {
-    #[tactic(auto, unfolding(crate::specs::Characters::passes, crate::specs::Characters::is_continue))]
+    #[tactic(auto, unfolding(crate::specs::Characters::passes))]
     pub fn passes(self, ch: char) -> bool
         ensures { result ≡ c.passes self ch }
     {
         match self {
-            Class::Continue => unicode_ident::is_xid_continue(ch),
+            Class::Continue => is_continue(ch),
             Class::Binary => ch == '0' || ch == '1' || ch == '_',
             Class::Octal => OCTAL.contains(&ch),
             Class::Decimal => ch.is_ascii_digit() || ch == '_',

@@ -10,15 +10,10 @@ use crate::piece::{Closing, Docs, Leaf, Piece};
 use crate::{comment, literal, number, word};
 use token_core::{Delimiter, ErrorKind, LitKind, Spacing};
 
-const MARKS: [char; 21] = [
-    '!', '#', '$', '%', '&', '*', '+', ',', '-', '.', '/', ':', ';', '<', '=', '>', '?', '@', '^',
-    '~', '|',
-];
-
 fn is_mark(ch: char) -> bool
     ensures { result ≡ c.is_mark ch }
 {
-    MARKS.contains(&ch)
+    matches!(ch, '!' | '#'..='&' | '*'..='/' | ':'..='@' | '^' | '|' | '~')
 }
 
 /// Whether a mark belongs with what follows it.

@@ -6,7 +6,7 @@ ghost use Rattle.token_text.specs.Characters as c;
 ghost use Rattle.token_text.specs.Front as spec;
 ghost use Rattle.token_text.specs.Pieces as pieces;
 
-use crate::class::{Class, is_blank};
+use crate::class::{Class, is_blank, is_letter};
 
 /// The words that have no raw form, as they would be written.
 const NOT_RAW: [&str; 5] = ["r#_", "r#crate", "r#self", "r#super", "r#Self"];
@@ -114,18 +114,11 @@ pub fn after_blanks(text: &str) -> &str
     rest
 }
 
-#[tactic(auto, unfolding(crate::specs::Characters::is_letter))]
-fn is_letter(ch: char) -> bool
-    ensures { result ≡ c.is_letter ch }
-{
-    unicode_ident::is_xid_start(ch)
-}
-
-#[tactic(auto, unfolding(crate::specs::Characters::is_start))]
+#[tactic(auto, unfolding(crate::specs::Characters::is_start, crate::specs::Characters::is_letter))]
 pub fn is_start(ch: char) -> bool
     ensures { result ≡ c.is_start ch }
 {
-    unicode_ident::is_xid_start(ch) || ch == '_'
+    is_letter(ch) || ch == '_'
 }
 
 /// What follows the word at the front.

@@ -1,13 +1,14 @@
 -- The grammars of patterns meet their laws on the front of a list, where those of a supplied subtree are given: before what may follow, each read is sound and complete, and what is spelt plainly is reprinted.
 use Rattle.std.proofs.Common.{◌≡◌, ℕ, suc, Bool, true, false, not, ◌&&◌, [], ◌++◌, Option, None, Ok, refl}
 use Rattle.std.proofs.lemmas.Bool.{and_parts, not-true}
-use Rattle.syn_pat.proofs.pat_laws.words.Tokens.{IsMark, Scope, Span, Visible, any_text, leaves, row, sees_word, Stream, Toks}
+use Rattle.syn_pat.proofs.pat_laws.words.Tokens.{IsMark, Scope, Span, Visible, leaves, row, sees_word, Stream, Toks}
 use Rattle.syn_pat.proofs.pat_laws.words.Paths.{Place, Reprints, SameOutcome, UsesUp}
 use Rattle.syn_pat.proofs.pat_laws.words.Forms.{Plus}
 use Rattle.syn_pat.proofs.pat_laws.words.Attributes.{Expr}
 use Rattle.syn_pat.proofs.pat_laws.words.Types.{clearly, loosely, plainly, End, TypeTree}
 use Rattle.syn_pat.proofs.pat_laws.words.Patterns.{IsPat, Pat, PatPlace, PatType, Single, ends_range, pats_to, sees_vert, types_shown, types_to}
 use Rattle.token_core.specs.Fronted.{FrontLaws}
+use Rattle.token_core.specs.Reads.{any_text}
 use Rattle.token_core.specs.Tokens as token
 use Rattle.token_core.proofs.Steps.{Reads_to}
 use Rattle.token_core.proofs.Took.{at}

@@ -47,6 +47,6 @@ module _ {X : Type 0} (spells : Place → X → Toks → Type 0) where
           (n k : ℕ) → (f : End) → IsPat spells (pats_to n) how Single x l m → IsMark (is_clear how) c m j → (types_to spells k how).ty Plus f t j done → SpellsPatType (typed_of [] x c t) l
 
     -- the same up to a rest, where the type ends so that this may follow
-    pub data BeginsPatType : Relation (PatType X) where
+    pub data BeginsPatType : PatType X → Toks → Toks → Type 0 where
       a_begun_type : {x : Pat X} {c : token.Colon} {t : TypeTree (Attr X) (Expr X)} {l m j r : Toks} →
           BeginsPat Single how x l m → IsMark (is_clear how) c m j → (k : ℕ) → Told ((types_to spells k how).ty Plus) t j r → BeginsPatType (typed_of [] x c t) l r

@@ -17,9 +17,10 @@ use Rattle.syn_attr.specs.attr.Attrs.{Attribute as Attr}
 use Rattle.syn_ty.proofs.ty_laws.complete.Within.{Fits, Less, NoMore}
 use Rattle.syn_ty.proofs.ty_laws.complete.Tokens.{other_mark}
 use Rattle.syn_pat.specs.pat.Admitted.{allows_cases}
+use Rattle.syn_pat.proofs.pat_laws.sound.Within.{Stops}
 use Rattle.syn_pat.specs.pat.Knot as knot
 use Rattle.syn_pat.specs.pat.Reading.{sees_lone_colon}
-use Rattle.syn_pat.proofs.pat_laws.complete.Fronts.{done_no_group, done_no_mark, mark_apart, word_apart}
+use Rattle.syn_pat.proofs.pat_laws.complete.Fronts.{done_no_group, done_no_mark, mark_apart, no_longer, word_apart}
 
 -- ---- what may follow
 
@@ -97,6 +98,11 @@ ends k o =
         ]
       ]
     ]
+
+-- ---- before it a lone word is no path
+
+pub ends_stop : (k : Toks) → Ends k → Stops k
+ends_stop k o = (and_left (token.sees_path_sep k) _ o.no_sep, no_longer 33 (61 ∷ []) k o.no_bang)
 
 -- ---- what follows a pattern in the grammar: the end, a comma, `|`, `if`, and a `:` that stands apart
 
