@@ -74,7 +74,9 @@ pub fn parse_item<A: Part, G: Part, W: Part, T: Part>(
     let clause = (ByPart::<W>::new(), ByParse::<BodyOf<A, T>>::new());
     let named = (ByParse::<Ident>::new(), (ByPart::<G>::new(), clause));
     let row = (ByPart::<A>::new(), (ByParse::<Struct>::new(), named));
-    let (attrs, (struct_token, (ident, (generics, (where_clause, body))))) = row.parse(alloc, input)?;
+    let (attrs, (struct_token, (ident, (generics, (where_clause, body))))) = row.parse(
+        alloc, input,
+    )?;
     Ok(ItemOf {
         attrs,
         struct_token,

@@ -57,28 +57,28 @@ module _ {A B : Type 0} (sees : Toks → Bool) (F : Fronting A) (G : Fronting B)
     left_fronted : (s t : Stream) (a : A) → sees s.rest ≡ true → Fronted F s (Ok a) t → Fronted It s (Ok (inl a)) t
     left_fronted s t a w h = λ n v. (
       λ c.
-        let b = (h n v).0 c in
-        record {
-          visible = b.visible;
-          sound = λ o. (w, b.sound (first (F.follows t.rest) (G.follows t.rest) o));
-          unique = λ y k i o. left_only s.rest k y ((y ≡ inl a) × (t.rest ≡ k)) w
-              (λ x e j. let u = b.unique x k j (first (F.follows k) (G.follows k) o) in (e ∙ ap (λ (z : A). let y : A ⊎ B = inl z in y) u.0, u.1)) i;
-          reprint = λ o k p z q. left_again a k (b.reprint (first (F.follows t.rest) (G.follows t.rest) o) k p z (first (F.follows k) (G.follows k) q));
-        },
+          let b = (h n v).0 c in
+          record {
+            visible = b.visible;
+            sound = λ o. (w, b.sound (first (F.follows t.rest) (G.follows t.rest) o));
+            unique = λ y k i o. left_only s.rest k y ((y ≡ inl a) × (t.rest ≡ k)) w
+                (λ x e j. let u = b.unique x k j (first (F.follows k) (G.follows k) o) in (e ∙ ap (λ (z : A). let y : A ⊎ B = inl z in y) u.0, u.1)) i;
+            reprint = λ o k p z q. left_again a k (b.reprint (first (F.follows t.rest) (G.follows t.rest) o) k p z (first (F.follows k) (G.follows k) q));
+          },
       λ y k i o. left_only s.rest k y (t.left ≡ None) w (λ x e j. (h n v).1 x k j (first (F.follows k) (G.follows k) o)) i,
     )
 
     right_fronted : (s t : Stream) (b : B) → sees s.rest ≡ false → Fronted G s (Ok b) t → Fronted It s (Ok (inr b)) t
     right_fronted s t b w h = λ n v. (
       λ c.
-        let g = (h n v).0 c in
-        record {
-          visible = g.visible;
-          sound = λ o. (w, g.sound (second (F.follows t.rest) (G.follows t.rest) o));
-          unique = λ y k i o. right_only s.rest k y ((y ≡ inr b) × (t.rest ≡ k)) w
-              (λ x e j. let u = g.unique x k j (second (F.follows k) (G.follows k) o) in (e ∙ ap (λ (z : B). let y : A ⊎ B = inr z in y) u.0, u.1)) i;
-          reprint = λ o k p z q. right_again b k (g.reprint (second (F.follows t.rest) (G.follows t.rest) o) k p z (second (F.follows k) (G.follows k) q));
-        },
+          let g = (h n v).0 c in
+          record {
+            visible = g.visible;
+            sound = λ o. (w, g.sound (second (F.follows t.rest) (G.follows t.rest) o));
+            unique = λ y k i o. right_only s.rest k y ((y ≡ inr b) × (t.rest ≡ k)) w
+                (λ x e j. let u = g.unique x k j (second (F.follows k) (G.follows k) o) in (e ∙ ap (λ (z : B). let y : A ⊎ B = inr z in y) u.0, u.1)) i;
+            reprint = λ o k p z q. right_again b k (g.reprint (second (F.follows t.rest) (G.follows t.rest) o) k p z (second (F.follows k) (G.follows k) q));
+          },
       λ y k i o. right_only s.rest k y (t.left ≡ None) w (λ x e j. (h n v).1 x k j (second (F.follows k) (G.follows k) o)) i,
     )
 

@@ -1,5 +1,5 @@
 -- A later state of a later state of a stream is a later state of it.
-use Rattle.std.proofs.Common.{◌≡◌, ◌<◌, ◌≤◌, Option, Some, None, refl, sym, ◌∙◌, ap, arith}
+use Rattle.std.proofs.Common.{◌≡◌, ◌≤◌, Option, Some, None, refl, ◌∙◌, ap, arith}
 use Rattle.token_core.specs.declared.span.Span.{Span}
 use Rattle.token_core.specs.Loops.{size}
 use Rattle.token_core.specs.Reads.{IsSuffix, all_of, past_word, past_punct, past_lit, past_group, past_enter, past_leave, Follows, first_of}
@@ -24,16 +24,6 @@ size_suffix (past_lit s p) = let h = size_suffix p in omega (arith, h)
 size_suffix (past_group d s c p) = let h = size_suffix p in omega (arith, h)
 size_suffix (past_enter s p) = let h = size_suffix p in omega (arith, h)
 size_suffix (past_leave p) = let h = size_suffix p in omega (arith, h)
-
--- less, where it is another
-pub size_less : {r t : Toks} → IsSuffix r t → (r ≡ t → ⊥) → size r < size t
-size_less all_of n = absurd (n refl)
-size_less (past_word t p) n = let h = size_suffix p in omega (arith, h)
-size_less (past_punct m p) n = let h = size_suffix p in omega (arith, h)
-size_less (past_lit s p) n = let h = size_suffix p in omega (arith, h)
-size_less (past_group d s c p) n = let h = size_suffix p in omega (arith, h)
-size_less (past_enter s p) n = let h = size_suffix p in omega (arith, h)
-size_less (past_leave p) n = let h = size_suffix p in omega (arith, h)
 
 pub first_same : (o : Option Span) → first_of o o ≡ o
 first_same None = refl
