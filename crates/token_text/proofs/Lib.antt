@@ -12,9 +12,10 @@ mod CommentLaws
 mod Steps
 mod CharacterLaws
 mod PieceLaws
-mod TextLaws
+pub mod TextLaws
 mod StringLaws
 mod WholeLaws
 mod MovingLaws
 mod Escapes
 mod DocLaws
+mod DepthLaws

@@ -1,0 +1,449 @@
+-- The levels of a text's pieces are those of the list that it spells.
+use Rattle.std.proofs.Common.{◌≡◌, ℕ, zero, suc, ◌+◌, ◌-◌, ◌<◌, ◌≤◌, IfErr, ◌⊎◌, inl, inr, Bool, true, false, if◌then◌else◌, List, [], ◌∷◌, ◌++◌, map, length, chars, codes, Option, Some, None, Result, Ok, Err, refl, sym, ap, ◌∙◌, subst, arith, append_assoc, append-nil}
+use Rattle.std.specs.Prelude.{nat_lt}
+use Rattle.std.specs.Char.{len_utf8}
+use Rattle.std.proofs.lemmas.Bool.{cases_Bool}
+use Rattle.std.proofs.lemmas.List.{map-append}
+use Rattle.token_core.specs.declared.class.Class.{Class}
+use Rattle.token_core.specs.declared.class.Class.TheVariants as c
+use Rattle.token_core.specs.declared.error.ErrorKind.{ErrorKind}
+use Rattle.token_core.specs.declared.error.ErrorKind.TheVariants.{NestedTooDeep}
+use Rattle.token_core.specs.declared.levels.Last.TheVariants.{Quote, Value, Other}
+use Rattle.token_core.specs.declared.span.Span.{Span}
+use Rattle.token_core.specs.declared.tree.Delimiter.{Delimiter}
+use Rattle.token_core.specs.declared.tree.Delimiter.TheVariants.{Bracket}
+use Rattle.token_core.specs.declared.tree.LitKind.{LitKind}
+use Rattle.token_core.specs.declared.tree.LitKind.TheVariants.{Str}
+use Rattle.token_core.specs.declared.tree.Spacing.{Spacing}
+use Rattle.token_core.specs.declared.tree.Spacing.TheVariants.{Joint, Alone}
+use Rattle.token_core.specs.declared.tree.TokenTree.{TokenTree}
+use Rattle.token_core.specs.Classes.{classed, text_class, is_raw}
+use Rattle.token_core.specs.Levels as levels
+use Rattle.token_core.specs.Levels.{Token, token, tokens, passes, plus, step, ident, with_last, too_deep, Checked}
+use Rattle.token_core.specs.Positions.{an_end, tree_items, row_items, items}
+use Rattle.token_core.specs.Refusal.{Refusal, named, out_of_memory, Stored}
+use Rattle.token_core.specs.Spans.{none, span, delim_span}
+use Rattle.token_core.specs.Toks.{Bytes}
+use Rattle.token_core.specs.Trees as trees
+use Rattle.token_core.specs.Trees.{stream_of_trees}
+use Rattle.token_core.proofs.Cuts.{stream_items}
+use Rattle.token_core.proofs.Positions.{ident_items, punct_items, literal_items, delimited_items}
+use Rattle.token_text.specs.Characters.{Text, is_nothing, after_run}
+use Rattle.token_text.specs.Depth.{after_leaf, after_piece, highest, place, IsTooDeep, Scanned}
+use Rattle.token_text.specs.Front.{Found, Past, look, front}
+use Rattle.token_text.specs.Pieces.{trees_of, group_tree, word_tree, mark_tree, past_quote, doc_marks, doc_group, doc_literal}
+use Rattle.token_text.specs.Reading.{Frame, State, state, start, same, closed, opened, act, with_more, finished, turn, reads, lexed_with}
+use Rattle.token_text.specs.Spelling.{SpellsWith, RefusedWith}
+use Rattle.token_text.specs.declared.class.Class.TheVariants as classes
+use Rattle.token_text.specs.declared.piece.Docs.{Docs}
+use Rattle.token_text.specs.declared.piece.Form.{Form}
+use Rattle.token_text.specs.declared.piece.Style.{Style}
+use Rattle.token_text.specs.declared.piece.Style.TheVariants.{Outer, Inner}
+use Rattle.token_text.specs.declared.piece.Leaf.TheVariants.{Blank, Doc, Word, Lifetime, Literal, Mark}
+use Rattle.token_text.specs.declared.piece.Piece.{Piece}
+use Rattle.token_text.specs.declared.piece.Piece.TheVariants.{Leaf, Open, Close}
+use Rattle.token_text.proofs.TextLaws.{same_is, lexed_spelled, lexed_refused}
+use Rattle.token_text.proofs.Steps.{reads_end, reads_faulty, front_refused, blanks_go, look_ahead, look_goes, look_stops}
+
+then_is : {A : Type 0} (b : Bool) (x y : A) → b ≡ true → (if b then x else y) ≡ x
+then_is true x y h = refl
+then_is false x y h = cc
+
+else_is : {A : Type 0} (b : Bool) (x y : A) → b ≡ false → (if b then x else y) ≡ y
+else_is true x y h = cc
+else_is false x y h = refl
+
+some_none : (s : Span) → Some s ≡ None → ⊥
+some_none s e = cc
+
+-- ---- the tokens of lists
+
+row_append : (a b : List TokenTree) → row_items (a ++ b) ≡ row_items a ++ row_items b
+row_append [] b = refl
+row_append (x ∷ a) b = ap (λ z. tree_items x ++ z) (row_append a b) ∙ sym (append_assoc (tree_items x) (row_items a) (row_items b))
+
+tokens_append : (a b : List TokenTree) → tokens (a ++ b) ≡ tokens a ++ tokens b
+tokens_append a b = ap (map token) (row_append a b) ∙ map-append token (row_items a) (row_items b)
+
+tokens_group : (d : Delimiter) (o s : Span) (ts : List TokenTree) → tokens (group_tree d o s ts ∷ []) ≡ (c.Open d, o) ∷ (tokens ts ++ (c.End, none) ∷ [])
+tokens_group d o s ts =
+    ap (map token) (append-nil (tree_items (group_tree d o s ts)) ∙ delimited_items d (delim_span o s) (stream_of_trees ts))
+    ∙ ap (λ z. (c.Open d, o) ∷ map token (z ++ an_end ∷ [])) (stream_items ts)
+    ∙ ap (λ z. (c.Open d, o) ∷ z) (map-append token (row_items ts) (an_end ∷ []))
+
+-- after the tokens of a list
+abbrev pub passed : List Token → levels.State → levels.State
+passed [] x = x
+passed (t ∷ l) x = passed l (step t.0 x)
+
+passed_append : (a b : List Token) (x : levels.State) → passed (a ++ b) x ≡ passed b (passed a x)
+passed_append [] b x = refl
+passed_append (t ∷ a) b x = passed_append a b (step t.0 x)
+
+passes_append : (limit : ℕ) (a b : List Token) (x : levels.State) → passes limit a x ≡ None → passes limit (a ++ b) x ≡ passes limit b (passed a x)
+passes_append limit [] b x h = refl
+passes_append limit (t ∷ a) b x h = elim (cases_Bool (nat_lt limit (step t.0 x).here)) [
+  | inl e ↦ (let f = then_is (nat_lt limit (step t.0 x).here) (Some t.1) (passes limit a (step t.0 x)) e in absurd (some_none t.1 (sym f ∙ h)))
+  | inr e ↦ else_is (nat_lt limit (step t.0 x).here) _ _ e ∙ passes_append limit a b (step t.0 x) (sym (else_is (nat_lt limit (step t.0 x).here) _ _ e) ∙ h)
+]
+
+passes_before : (limit : ℕ) (a b : List Token) (x : levels.State) (s : Span) → passes limit a x ≡ Some s → passes limit (a ++ b) x ≡ Some s
+passes_before limit [] b x s h = cc
+passes_before limit (t ∷ a) b x s h = elim (cases_Bool (nat_lt limit (step t.0 x).here)) [
+  | inl e ↦ then_is (nat_lt limit (step t.0 x).here) _ _ e ∙ (sym (then_is (nat_lt limit (step t.0 x).here) (Some t.1) (passes limit a (step t.0 x)) e) ∙ h)
+  | inr e ↦ else_is (nat_lt limit (step t.0 x).here) _ _ e ∙ passes_before limit a b (step t.0 x) s (sym (else_is (nat_lt limit (step t.0 x).here) _ _ e) ∙ h)
+]
+
+-- ---- the tokens of what is read so far
+
+abbrev pub flat : List Frame → List TokenTree → List Token
+flat [] ts = tokens ts
+flat (f ∷ fs) ts = flat fs f.before ++ (c.Open f.delimiter, f.span) ∷ tokens ts
+
+abbrev pub flat_of : State → List Token
+flat_of x = flat x.open_groups x.so_far
+
+flat_more : (fs : List Frame) (ts us : List TokenTree) → flat fs (ts ++ us) ≡ flat fs ts ++ tokens us
+flat_more [] ts us = tokens_append ts us
+flat_more (f ∷ fs) ts us =
+    ap (λ z. flat fs f.before ++ (c.Open f.delimiter, f.span) ∷ z) (tokens_append ts us)
+    ∙ sym (append_assoc (flat fs f.before) ((c.Open f.delimiter, f.span) ∷ tokens ts) (tokens us))
+
+-- the tokens of a piece
+abbrev pub piece_tokens : Piece → Span → Bytes → List Token
+piece_tokens (Leaf k) s b = tokens (trees_of k s b)
+piece_tokens (Open d) s b = (c.Open d, s) ∷ []
+piece_tokens (Close d) s b = (c.End, none) ∷ []
+
+flat_close : (d : Delimiter) (s : Span) (fs : List Frame) (ts : List TokenTree) (y : State) → closed d s fs ts ≡ Ok y → flat_of y ≡ flat fs ts ++ (c.End, none) ∷ []
+flat_close d s [] ts y h = cc
+flat_close d s (f ∷ fs) ts y h = elim (cases_Bool (same f.delimiter d)) [
+  | inl e ↦ (
+      let g = group_tree d f.span s ts in
+      let k : Ok (state fs (f.before ++ g ∷ [])) ≡ Ok y = sym (then_is (same f.delimiter d) _ _ e) ∙ h in
+      let is : state fs (f.before ++ g ∷ []) ≡ y = cc in
+      ap flat_of (sym is) ∙ flat_more fs f.before (g ∷ []) ∙ ap (λ z. flat fs f.before ++ z) (tokens_group d f.span s ts)
+      ∙ ap (λ b. flat fs f.before ++ ((c.Open b, f.span) ∷ (tokens ts ++ (c.End, none) ∷ []))) (sym (same_is f.delimiter d e))
+      ∙ sym (append_assoc (flat fs f.before) ((c.Open f.delimiter, f.span) ∷ tokens ts) ((c.End, none) ∷ [])))
+  | inr e ↦ (let k = sym (else_is (same f.delimiter d) _ _ e) ∙ h in cc)
+]
+
+pub flat_act : (s : Span) (b : Bytes) (p : Piece) (x y : State) → act s b p x ≡ Ok y → flat_of y ≡ flat_of x ++ piece_tokens p s b
+flat_act s b (Leaf k) x y h =
+    let is : state x.open_groups (x.so_far ++ trees_of k s b) ≡ y = cc in
+    ap flat_of (sym is) ∙ flat_more x.open_groups x.so_far (trees_of k s b)
+flat_act s b (Open d) x y h = let is : opened d s x ≡ y = cc in ap flat_of (sym is)
+flat_act s b (Close d) x y h = flat_close d s x.open_groups x.so_far y h
+
+flat_end : (fs : List Frame) (ts l : List TokenTree) → finished fs ts ≡ Ok l → tokens l ≡ flat fs ts
+flat_end [] ts l h = let is : ts ≡ l = cc in ap tokens (sym is)
+flat_end (f ∷ fs) ts l h = cc
+
+-- what is read goes on with these
+abbrev More : State → List TokenTree → Type 0
+More x l = (r : List Token) × (tokens l ≡ flat_of x ++ r)
+
+abbrev Grown : State → State → Type 0
+Grown x y = (r : List Token) × (flat_of y ≡ flat_of x ++ r)
+
+acted : (n : ℕ) (s : Span) (b : Bytes) (p : Piece) (x : State) (y : State × ℕ) (o : Result State Refusal) → act s b p x ≡ o → with_more n o ≡ Ok y → Grown x y.0
+acted n s b p x y (Err e) a h = cc
+acted n s b p x y (Ok z) a h = let is : z ≡ y.0 = cc in (piece_tokens p s b, ap flat_of (sym is) ∙ flat_act s b p x z a)
+
+turned : (at d : ℕ) (x : State) (y : State × ℕ) (o : Result Found ErrorKind) → turn at d x o ≡ Ok y → Grown x y.0
+turned at d x y (Err k) h = cc
+turned at d x y (Ok f) h = acted _ _ _ f.piece x y (act _ _ f.piece x) refl h
+
+goes_on : (x : State) (l : List TokenTree) (o : Result (State × ℕ) Refusal) (go : State × ℕ → Result (List TokenTree) Refusal) → elim o [ Ok y ↦ go y | Err e ↦ Err e ] ≡ Ok l
+    → ((y : State × ℕ) → o ≡ Ok y → Grown x y.0) → ((y : State × ℕ) → go y ≡ Ok l → More y.0 l) → More x l
+goes_on x l (Err e) go h g m = cc
+goes_on x l (Ok y) go h g m =
+    let a = g y refl in
+    let b = m y h in
+    (a.0 ++ b.0, b.1 ∙ ap (λ z. z ++ b.0) a.1 ∙ append_assoc (flat_of x) a.0 b.0)
+
+extends : (docs : Docs) (n at : ℕ) (x : State) (cs : Text) (l : List TokenTree) → reads docs n at x cs ≡ Ok l → More x l
+unfolding reads
+extends docs n at x [] l h = ([], flat_end x.open_groups x.so_far l h ∙ sym (append-nil (flat_of x)))
+extends docs (suc n) at x (d ∷ cs) l h = extends docs n (at + len_utf8 d) x cs l h
+extends docs zero at x (d ∷ cs) l h =
+    goes_on x l (turn at d x (front docs (d ∷ cs))) (λ y. reads docs y.1 (at + len_utf8 d) y.0 cs) h (λ y e. turned at d x y (front docs (d ∷ cs)) e)
+    (λ y k. extends docs y.1 (at + len_utf8 d) y.0 cs l k)
+
+-- ---- the levels after a piece
+
+classed_step : (o : Option ℕ) (b : Bytes) (x : levels.State) → step (classed o b) x ≡ ident (classed o b) x
+classed_step (Some n) b x = refl
+classed_step None b x = elim (is_raw b) as (λ r. step (if r then c.Raw else c.Ident) x ≡ ident (if r then c.Raw else c.Ident) x) [ true ↦ refl | false ↦ refl ]
+
+ident_step : (b : Bytes) (x : levels.State) → step (text_class b) x ≡ ident (text_class b) x
+unfolding text_class
+ident_step b x = classed_step _ b x
+
+-- the name of a lifetime changes no level
+quoted_here : (k : Class) (x : levels.State) → (ident k (with_last Quote x)).here ≡ x.here
+quoted_here (c.Word n) x = refl
+quoted_here c.Raw x = refl
+quoted_here c.Ident x = refl
+quoted_here (c.Mark j d) x = refl
+quoted_here (c.Literal k) x = refl
+quoted_here (c.Open b) x = refl
+quoted_here c.End x = refl
+
+word_tokens : (b : Bytes) (s : Span) → tokens (word_tree b s ∷ []) ≡ (text_class b, s) ∷ []
+word_tokens b s = ap (λ z. map token (z ++ [])) (ident_items (trees.ident b s))
+
+mark_tokens : (d : ℕ) (j : Spacing) (s : Span) → tokens (mark_tree d j s ∷ []) ≡ (c.Mark j d, s) ∷ []
+mark_tokens d j s = ap (λ z. map token (z ++ [])) (punct_items (trees.punct d j s))
+
+literal_tokens : (k : LitKind) (b : Bytes) (s : Span) → tokens (trees_of (Literal k) s b) ≡ (c.Literal k, s) ∷ []
+literal_tokens k b s = ap (λ z. map token (z ++ [])) (literal_items (trees.literal k b s))
+
+lifetime_tokens : (b : Bytes) (s : Span) → tokens (trees_of Lifetime s b) ≡ (c.Mark Joint 39, span s.lo (s.lo + 1)) ∷ (text_class (past_quote b), span (s.lo + 1) s.hi) ∷ []
+lifetime_tokens b s =
+    tokens_append (mark_tree 39 Joint (span s.lo (s.lo + 1)) ∷ []) (word_tree (past_quote b) (span (s.lo + 1) s.hi) ∷ [])
+    ∙ ap (λ z. z ++ tokens (word_tree (past_quote b) (span (s.lo + 1) s.hi) ∷ [])) (mark_tokens 39 Joint (span s.lo (s.lo + 1)))
+    ∙ ap (λ z. (c.Mark Joint 39, span s.lo (s.lo + 1)) ∷ z) (word_tokens (past_quote b) (span (s.lo + 1) s.hi))
+
+-- the tokens of the attribute of a comment of documentation
+abbrev before_group : Style → Span → List Token
+before_group Outer s = (c.Mark Alone 35, s) ∷ []
+before_group Inner s = (c.Mark Alone 35, s) ∷ (c.Mark Alone 33, s) ∷ []
+
+abbrev of_group : Span → List Token
+of_group s = (c.Open Bracket, s) ∷ (c.Ident, s) ∷ (c.Mark Alone 61, s) ∷ (c.Literal Str, s) ∷ (c.End, none) ∷ []
+
+doc_class : text_class (codes "doc") ≡ c.Ident
+unfolding text_class
+doc_class = refl
+
+marks_tokens : (style : Style) (s : Span) → tokens (doc_marks style s) ≡ before_group style s
+marks_tokens Outer s = mark_tokens 35 Alone s
+marks_tokens Inner s =
+    tokens_append (mark_tree 35 Alone s ∷ []) (mark_tree 33 Alone s ∷ [])
+    ∙ ap (λ z. z ++ tokens (mark_tree 33 Alone s ∷ [])) (mark_tokens 35 Alone s)
+    ∙ ap (λ z. (c.Mark Alone 35, s) ∷ z) (mark_tokens 33 Alone s)
+
+content_tokens : (s : Span) (b : Bytes)
+    → tokens (word_tree (codes "doc") s ∷ mark_tree 61 Alone s ∷ trees_of (Literal Str) s b) ≡ (c.Ident, s) ∷ (c.Mark Alone 61, s) ∷ (c.Literal Str, s) ∷ []
+content_tokens s b =
+    let last = trees_of (Literal Str) s b in
+    tokens_append (word_tree (codes "doc") s ∷ []) (mark_tree 61 Alone s ∷ last)
+    ∙ ap (λ z. z ++ tokens (mark_tree 61 Alone s ∷ last)) (word_tokens (codes "doc") s ∙ ap (λ k. (k, s) ∷ []) doc_class)
+    ∙ ap (λ z. (c.Ident, s) ∷ z)
+    (tokens_append (mark_tree 61 Alone s ∷ []) last
+    ∙ ap (λ z. z ++ tokens last) (mark_tokens 61 Alone s)
+    ∙ ap (λ z. (c.Mark Alone 61, s) ∷ z) (literal_tokens Str b s))
+
+group_tokens : (s : Span) (b : Bytes) → tokens (doc_group s b ∷ []) ≡ of_group s
+group_tokens s b =
+    tokens_group Bracket s s (word_tree (codes "doc") s ∷ mark_tree 61 Alone s ∷ trees_of (Literal Str) s b)
+    ∙ ap (λ z. (c.Open Bracket, s) ∷ (z ++ (c.End, none) ∷ [])) (content_tokens s b)
+
+doc_tokens : (style : Style) (form : Form) (s : Span) (b : Bytes) → tokens (trees_of (Doc style form) s b) ≡ before_group style s ++ of_group s
+doc_tokens style form s b =
+    let g = doc_group s (doc_literal form b) ∷ [] in
+    tokens_append (doc_marks style s) g ∙ ap (λ z. z ++ tokens g) (marks_tokens style s) ∙ ap (λ z. before_group style s ++ z) (group_tokens s (doc_literal form b))
+
+doc_passed : (style : Style) (s : Span) (x : levels.State) → passed (before_group style s ++ of_group s) x ≡ with_last Other x
+doc_passed Outer s x = refl
+doc_passed Inner s x = refl
+
+piece_passed : (p : Piece) (s : Span) (b : Bytes) (x : levels.State) → passed (piece_tokens p s b) x ≡ after_piece p b x
+piece_passed (Leaf Blank) s b x = refl
+piece_passed (Leaf (Doc style form)) s b x = ap (λ l. passed l x) (doc_tokens style form s b) ∙ doc_passed style s x
+piece_passed (Leaf Word) s b x = ap (λ l. passed l x) (word_tokens b s) ∙ ident_step b x
+piece_passed (Leaf Lifetime) s b x = ap (λ l. passed l x) (lifetime_tokens b s) ∙ ident_step (past_quote b) (with_last Quote x)
+piece_passed (Leaf (Literal k)) s b x = ap (λ l. passed l x) (literal_tokens k b s)
+piece_passed (Leaf (Mark d j)) s b x = ap (λ l. passed l x) (mark_tokens d j s)
+piece_passed (Open d) s b x = refl
+piece_passed (Close d) s b x = refl
+
+one_within : (limit : ℕ) (t : Token) (x : levels.State) → nat_lt limit (step t.0 x).here ≡ false → passes limit (t ∷ []) x ≡ None
+one_within limit t x h = else_is (nat_lt limit (step t.0 x).here) _ _ h
+
+one_beyond : (limit : ℕ) (t : Token) (l : List Token) (x : levels.State) → nat_lt limit (step t.0 x).here ≡ true → passes limit (t ∷ l) x ≡ Some t.1
+one_beyond limit t l x h = then_is (nat_lt limit (step t.0 x).here) _ _ h
+
+one_past : (limit : ℕ) (t : Token) (l : List Token) (x : levels.State) → nat_lt limit (step t.0 x).here ≡ false → passes limit (t ∷ l) x ≡ passes limit l (step t.0 x)
+one_past limit t l x h = else_is (nat_lt limit (step t.0 x).here) _ _ h
+
+ident_here : (limit : ℕ) (b : Bytes) (x : levels.State) (r : Bool) → nat_lt limit (ident (text_class b) x).here ≡ r → nat_lt limit (step (text_class b) x).here ≡ r
+ident_here limit b x r h = ap (λ (y : levels.State). nat_lt limit y.here) (ident_step b x) ∙ h
+
+at_most : (n limit : ℕ) → n ≤ limit → nat_lt limit n ≡ false
+at_most n limit h = grind (arith, h)
+
+under : (n limit : ℕ) → nat_lt limit n ≡ false → n ≤ limit
+under n limit h = grind (arith, h)
+
+marks_past : (limit : ℕ) (style : Style) (s : Span) (l : List Token) (x : levels.State) → nat_lt limit x.here ≡ false
+    → passes limit (before_group style s ++ l) x ≡ passes limit l (with_last Other x)
+marks_past limit Outer s l x h = one_past limit (c.Mark Alone 35, s) l x h
+marks_past limit Inner s l x h = one_past limit (c.Mark Alone 35, s) ((c.Mark Alone 33, s) ∷ l) x h ∙ one_past limit (c.Mark Alone 33, s) l (with_last Other x) h
+
+abbrev in_group : levels.State → levels.State
+in_group x = levels.open_group Bracket x
+
+group_within : (limit : ℕ) (s : Span) (x : levels.State) → nat_lt limit x.here ≡ false → nat_lt limit (plus x.here 1) ≡ false → passes limit (of_group s) x ≡ None
+group_within limit s x h n =
+    one_past limit (c.Open Bracket, s) ((c.Ident, s) ∷ (c.Mark Alone 61, s) ∷ (c.Literal Str, s) ∷ (c.End, none) ∷ []) x n
+    ∙ one_past limit (c.Ident, s) ((c.Mark Alone 61, s) ∷ (c.Literal Str, s) ∷ (c.End, none) ∷ []) (in_group x) n
+    ∙ one_past limit (c.Mark Alone 61, s) ((c.Literal Str, s) ∷ (c.End, none) ∷ []) (levels.name (in_group x)) n
+    ∙ one_past limit (c.Literal Str, s) ((c.End, none) ∷ []) (with_last Other (in_group x)) n
+    ∙ one_within limit (c.End, none) (with_last Value (in_group x)) h
+
+-- a piece passes a limit where its greatest level is above
+piece_within : (limit : ℕ) (p : Piece) (s : Span) (b : Bytes) (x : levels.State) → x.here ≤ limit → nat_lt limit (highest p (after_piece p b x)) ≡ false
+    → passes limit (piece_tokens p s b) x ≡ None
+piece_within limit (Leaf Blank) s b x le h = refl
+piece_within limit (Leaf (Doc style form)) s b x le h =
+    let low = at_most x.here limit le in
+    ap (λ l. passes limit l x) (doc_tokens style form s b) ∙ marks_past limit style s (of_group s) x low ∙ group_within limit s (with_last Other x) low h
+piece_within limit (Leaf Word) s b x le h = ap (λ l. passes limit l x) (word_tokens b s) ∙ one_within limit (text_class b, s) x (ident_here limit b x false h)
+piece_within limit (Leaf Lifetime) s b x le h =
+    ap (λ l. passes limit l x) (lifetime_tokens b s) ∙ else_is (nat_lt limit x.here) _ _ (at_most x.here limit le)
+    ∙ one_within limit (text_class (past_quote b), span (s.lo + 1) s.hi) (with_last Quote x) (ident_here limit (past_quote b) (with_last Quote x) false h)
+piece_within limit (Leaf (Literal k)) s b x le h = ap (λ l. passes limit l x) (literal_tokens k b s) ∙ one_within limit (c.Literal k, s) x h
+piece_within limit (Leaf (Mark d j)) s b x le h = ap (λ l. passes limit l x) (mark_tokens d j s) ∙ one_within limit (c.Mark j d, s) x h
+piece_within limit (Open d) s b x le h = one_within limit (c.Open d, s) x h
+piece_within limit (Close d) s b x le h = one_within limit (c.End, none) x h
+
+-- and then the levels stay within the limit
+piece_stays : (limit : ℕ) (p : Piece) (b : Bytes) (x : levels.State) → x.here ≤ limit → nat_lt limit (highest p (after_piece p b x)) ≡ false → (after_piece p b x).here ≤ limit
+piece_stays limit (Leaf Blank) b x le h = le
+piece_stays limit (Leaf (Doc style form)) b x le h = le
+piece_stays limit (Leaf Word) b x le h = under _ limit h
+piece_stays limit (Leaf Lifetime) b x le h = under _ limit h
+piece_stays limit (Leaf (Literal k)) b x le h = under _ limit h
+piece_stays limit (Leaf (Mark d j)) b x le h = under _ limit h
+piece_stays limit (Open d) b x le h = under _ limit h
+piece_stays limit (Close d) b x le h = under _ limit h
+
+piece_beyond : (limit : ℕ) (p : Piece) (s : Span) (b : Bytes) (x : levels.State) → x.here ≤ limit → nat_lt limit (highest p (after_piece p b x)) ≡ true
+    → passes limit (piece_tokens p s b) x ≡ Some (place p s)
+piece_beyond limit (Leaf Blank) s b x le h = let e : false ≡ true = sym (at_most x.here limit le) ∙ h in cc
+piece_beyond limit (Leaf (Doc style form)) s b x le h =
+    ap (λ l. passes limit l x) (doc_tokens style form s b) ∙ marks_past limit style s (of_group s) x (at_most x.here limit le)
+    ∙ one_beyond limit (c.Open Bracket, s) ((c.Ident, s) ∷ (c.Mark Alone 61, s) ∷ (c.Literal Str, s) ∷ (c.End, none) ∷ []) (with_last Other x) h
+piece_beyond limit (Leaf Word) s b x le h = ap (λ l. passes limit l x) (word_tokens b s) ∙ one_beyond limit (text_class b, s) [] x (ident_here limit b x true h)
+piece_beyond limit (Leaf Lifetime) s b x le h =
+    let e : false ≡ true = sym (at_most x.here limit le) ∙ ap (nat_lt limit) (sym (quoted_here (text_class (past_quote b)) x)) ∙ h in cc
+piece_beyond limit (Leaf (Literal k)) s b x le h = ap (λ l. passes limit l x) (literal_tokens k b s) ∙ one_beyond limit (c.Literal k, s) [] x h
+piece_beyond limit (Leaf (Mark d j)) s b x le h = ap (λ l. passes limit l x) (mark_tokens d j s) ∙ one_beyond limit (c.Mark j d, s) [] x h
+piece_beyond limit (Open d) s b x le h = one_beyond limit (c.Open d, s) [] x h
+piece_beyond limit (Close d) s b x le h = one_beyond limit (c.End, none) [] x h
+
+-- ---- the loop over a text
+
+module _ (docs : Docs) (limit : ℕ) where
+  -- Of a text with tokens the levels are those of what is read of it so far, within the limit.
+  abbrev pub Reached : Result (List TokenTree) Refusal → ℕ → Text → levels.State → Type 0
+  Reached (Ok l) at cs y =
+      (x : State) × ((Ok l ≡ reads docs 0 at x cs) × ((y ≡ passed (flat_of x) levels.start) × ((passes limit (flat_of x) levels.start ≡ None) × (y.here ≤ limit))))
+  Reached (Err e) at cs y = Unit {0}
+
+  pub reached_first : (at : ℕ) (o : Result (List TokenTree) Refusal) (cs : Text) (y : levels.State) → o ≡ reads docs 0 at start cs → y ≡ levels.start → Reached o at cs y
+  reached_first at (Ok l) cs y h e = let here : y.here ≡ 0 = ap (λ (z : levels.State). z.here) e in (start, h, e, refl, omega (arith, here))
+  reached_first at (Err f) cs y h e = tt
+
+  pub reached_end : (at : ℕ) (o : Result (List TokenTree) Refusal) (cs : Text) (y : levels.State) → is_nothing cs ≡ true → Reached o at cs y → Scanned limit o (Ok tt)
+  unfolding too_deep
+  reached_end at (Ok l) [] y h r =
+      let x = r.0 in
+      let e : finished x.open_groups x.so_far ≡ Ok l = sym (r.1.0 ∙ reads_end docs at x) in
+      ap (λ k. passes limit k levels.start) (flat_end x.open_groups x.so_far l e) ∙ r.1.1.1.0
+  reached_end at (Ok l) (d ∷ cs) y h r = cc
+  reached_end at (Err e) cs y h r = tt
+
+  pub reached_fault : (at : ℕ) (o : Result (List TokenTree) Refusal) (cs : Text) (k : ErrorKind) (y : levels.State) → is_nothing cs ≡ false → front docs cs ≡ Err k
+      → Reached o at cs y → Scanned limit o (Ok tt)
+  reached_fault at (Ok l) [] k y n h r = cc
+  reached_fault at (Ok l) (d ∷ cs) k y n h r = let e = r.1.0 ∙ reads_faulty docs k at d r.0 cs h in cc
+  reached_fault at (Err e) cs k y n h r = tt
+
+  module _ (text rest after : List ℕ) (p : Piece) (y : levels.State) (le : length rest ≤ length text) (found : look docs (chars rest) ≡ Ok (p, chars after))
+      (past : Past rest after) (s : Span) (b : List ℕ) (cut : rest ≡ b ++ after) (is : s ≡ span (length text - length rest) (length text - length after)) where
+    abbrev At : ℕ
+    At = length text - length rest
+
+    abbrev Then : ℕ
+    Then = length text - length after
+
+    module _ (l : List TokenTree) (e : lexed_with docs text ≡ Ok l) (x : State) (known : lexed_with docs text ≡ reads docs 0 At x (chars rest))
+        (from : y ≡ passed (flat_of x) levels.start) (none_yet : passes limit (flat_of x) levels.start ≡ None) (here : y.here ≤ limit) where
+      no_stop : (r : Refusal) → act s b p x ≡ Err r → Ok l ≡ Err r
+      no_stop r a = sym e ∙ look_stops docs text rest after p x known le found past s b r cut is a
+
+      goes_to : (z : State) → act s b p x ≡ Ok z → Ok l ≡ reads docs 0 Then z (chars after)
+      goes_to z a = sym e ∙ look_goes docs text rest after p x known le found past s b z cut is a
+
+      more_by : (a : Result State Refusal) → act s b p x ≡ a → nat_lt limit (highest p (after_piece p b y)) ≡ false → Reached (Ok l) Then (chars after) (after_piece p b y)
+      more_by (Err r) a n = let f = no_stop r a in cc
+      more_by (Ok z) a n =
+          let f = flat_act s b p x z a in
+          let pts = piece_tokens p s b in (
+            z,
+            goes_to z a,
+            sym (piece_passed p s b y) ∙ ap (passed pts) from ∙ sym (passed_append (flat_of x) pts levels.start) ∙ ap (λ k. passed k levels.start) (sym f),
+            ap (λ k. passes limit k levels.start) f ∙ passes_append limit (flat_of x) pts levels.start none_yet ∙ ap (passes limit pts) (sym from) ∙ piece_within limit p s b y here n,
+            piece_stays limit p b y here n,
+          )
+
+      deep_by : (a : Result State Refusal) → act s b p x ≡ a → nat_lt limit (highest p (after_piece p b y)) ≡ true → too_deep limit l ≡ Some (place p s)
+      unfolding too_deep
+      deep_by (Err r) a n = let f = no_stop r a in cc
+      deep_by (Ok z) a n =
+          let f = flat_act s b p x z a in
+          let pts = piece_tokens p s b in
+          let m = extends docs 0 Then z (chars after) l (sym (goes_to z a)) in
+          ap (λ k. passes limit k levels.start) (m.1 ∙ ap (λ k. k ++ m.0) f ∙ append_assoc (flat_of x) pts m.0)
+          ∙ passes_append limit (flat_of x) (pts ++ m.0) levels.start none_yet
+          ∙ ap (passes limit (pts ++ m.0)) (sym from)
+          ∙ passes_before limit pts m.0 y (place p s) (piece_beyond limit p s b y here n)
+
+    pub reached_more : (o : Result (List TokenTree) Refusal) → lexed_with docs text ≡ o → Reached o At (chars rest) y → nat_lt limit (highest p (after_piece p b y)) ≡ false
+        → Reached o Then (chars after) (after_piece p b y)
+    reached_more (Ok l) e r n = more_by l e r.0 (e ∙ r.1.0) r.1.1.0 r.1.1.1.0 r.1.1.1.1 (act s b p r.0) refl n
+    reached_more (Err f) e r n = tt
+
+    refused_there : (o : Option Span) (t : Span) (f : Refusal) → o ≡ Some t → Stored f (named NestedTooDeep t) → Checked o (Err f)
+    refused_there (Some u) t f e (inl h) = let q : u ≡ t = cc in inr (rw q h)
+    refused_there (Some u) t f e (inr h) = inl h
+    refused_there None t f e h = cc
+
+    unread : (t : Span) (f : Refusal) → Stored f (named NestedTooDeep t) → (f ≡ out_of_memory) ⊎ IsTooDeep f
+    unread t f (inl h) = inr (t, h)
+    unread t f (inr h) = inl h
+
+    pub reached_limit : (o : Result (List TokenTree) Refusal) → lexed_with docs text ≡ o → Reached o At (chars rest) y → nat_lt limit (highest p (after_piece p b y)) ≡ true
+        → (f : Refusal) → Stored f (named NestedTooDeep (place p s)) → Scanned limit o (Err f)
+    reached_limit (Ok l) e r n f h = refused_there (too_deep limit l) (place p s) f (deep_by l e r.0 (e ∙ r.1.0) r.1.1.0 r.1.1.1.0 r.1.1.1.1 (act s b p r.0) refl n) h
+    reached_limit (Err g) e r n f h = unread (place p s) f h
+
+  pub no_memory : (o : Result (List TokenTree) Refusal) (f : Refusal) → f ≡ out_of_memory → Scanned limit o (Err f)
+  no_memory (Ok l) f h = inl h
+  no_memory (Err e) f h = inl h
+
+  -- blanks are passed over
+  pub reached_blanks : (text rest after : List ℕ) (o : Result (List TokenTree) Refusal) (y : levels.State) → lexed_with docs text ≡ o → length rest ≤ length text
+      → Past rest after → chars after ≡ after_run classes.Blank (chars rest) → Reached o (length text - length rest) (chars rest) y
+      → Reached o (length text - length after) (chars after) y
+  reached_blanks text rest after (Ok l) y e le past run r = (r.0, sym e ∙ blanks_go docs text rest after r.0 (e ∙ r.1.0) le past run, r.1.1)
+  reached_blanks text rest after (Err f) y e le past run r = tt
+
+  -- a piece takes something
+  pub look_less : (rest after : List ℕ) (p : Piece) → look docs (chars rest) ≡ Ok (p, chars after) → Past rest after → length after < length rest
+  look_less rest after p h past =
+      let at : 0 ≡ length rest - length rest = omega arith in
+      let le : length rest ≤ length rest = omega arith in
+      look_ahead docs rest rest after p start (ap (λ n. reads docs 0 n start (chars rest)) at) le h past
+
+  -- ---- by what the text spells
+
+  module _ (text : Bytes) (r : Result (Unit {0}) Refusal) (h : Scanned limit (lexed_with docs text) r) where
+    pub scan_spelt : (l : List TokenTree) → SpellsWith docs text l → Checked (too_deep limit l) r
+    scan_spelt l s = subst (λ o. Scanned limit o r) (lexed_spelled docs text l s) h
+
+    pub scan_unspelt : (e : Refusal) → RefusedWith docs text e → IfErr r (λ f. (f ≡ out_of_memory) ⊎ IsTooDeep f)
+    scan_unspelt e s = subst (λ o. Scanned limit o r) (lexed_refused docs text e s) h
