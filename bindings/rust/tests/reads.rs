@@ -1,6 +1,6 @@
 //! What the readers answer through C.
 
-use kulojenta::{read, readers, Kind, Refusal};
+use kulojenta::{read, read_within, readers, Kind, Refusal, LIMIT};
 use std::thread;
 
 /// What was read, or the refusal with its place.
@@ -55,6 +55,63 @@ fn refusals_say_where() {
     }
     assert!(read("Foo", "a").unwrap_err().is_unknown_reader());
     assert!(!read("Type", "").unwrap_err().is_out_of_memory());
+}
+
+/// Each form at the deepest that the limit lets pass is answered on the stack of a thread, and at the next level refused.
+#[test]
+fn deep_texts_are_refused() {
+    // (the levels that each takes, and those that its last one takes more)
+    for (before, within, after, levels, more) in [
+        ("(", "A", ")", 1, 0),
+        ("[", "A", "]", 1, 0),
+        ("&", "A", "", 1, 0),
+        ("Vec<", "A", ">", 3, 0),
+        ("fn(", "A", ")", 2, 0),
+        ("fn() -> ", "A", "", 2, 0),
+        ("dyn A<", "B", ">", 4, 0),
+        ("A<B: C<", "A", ">>", 6, 0),
+        ("unsafe<'a> ", "A", "", 2, 3),
+    ] {
+        let most = (LIMIT - more) / levels;
+        for count in [most, most + 1, 200_000] {
+            let text = before.repeat(count) + within + &after.repeat(count);
+            let deep =
+                matches!(read("Type", &text), Err(it) if it.kind() == Kind::NestedTooDeep);
+            assert_eq!(deep, count > most, "{count} of {before}");
+        }
+    }
+    let refusal = read_within("Type", "Vec<(A)>", 3).unwrap_err();
+    assert_eq!(refusal.to_string(), "nested too deep");
+    assert_eq!((refusal.start(), refusal.end()), (4, 5));
+    assert!(read_within("Type", "Vec<(A)>", 4).is_ok());
+}
+
+#[test]
+fn documentation_is_read() {
+    for (reader, text, wanted) in [
+        (
+            "Attribute::parse_outer",
+            "/// A.\n#[b]",
+            "# [doc = \" A.\"] # [b]",
+        ),
+        (
+            "Attribute::parse_inner",
+            "//! \"A\"\n/*! B */",
+            "# ! [doc = \" \\\"A\\\"\"] # ! [doc = \" B \"]",
+        ),
+        ("Macro", "a!{/// A.\nb}", "a ! { # [doc = \" A.\"] b }"),
+        (
+            "Attribute::parse_outer",
+            "/// A.\r \n",
+            "unknown start of token at 0..1 (UnknownToken)",
+        ),
+    ] {
+        assert_eq!(said(reader, text), wanted, "{reader} of {text}");
+    }
+    // (the attribute takes the level of its group)
+    let refusal = read_within("Macro", "a!{/// A.\nb}", 1).unwrap_err();
+    assert_eq!((refusal.start(), refusal.end()), (3, 9));
+    assert!(read_within("Macro", "a!{/// A.\nb}", 2).is_ok());
 }
 
 #[test]
