@@ -1,17 +1,17 @@
 -- What a read of a text within a limit answers.
-use Rattle.std.proofs.Common.{◌≡◌, ◌⊎◌, inl, inr, ℕ, List, Option, Some, None, Result, Ok, Err, refl, sym, ap, ◌∙◌}
-use Rattle.std.specs.Prelude.{IfErr, MatchResult}
-use Rattle.token_core.specs.declared.error.ErrorKind.TheVariants.{OutOfMemory, NestedTooDeep}
+use Rattle.std.proofs.Common.{◌≡◌, ◌⊎◌, inl, inr, ℕ, List, Option, Some, None, Result, Ok, Err, sym, ap, ◌∙◌}
+use Rattle.std.specs.Prelude.{MatchResult}
+use Rattle.token_core.specs.declared.error.ErrorKind.TheVariants.{NestedTooDeep}
 use Rattle.token_core.specs.declared.span.Span.{Span}
 use Rattle.token_core.specs.declared.tree.TokenTree.{TokenTree}
-use Rattle.token_core.specs.Levels.{too_deep, refused_at, Checked}
+use Rattle.token_core.specs.Levels.{too_deep, Checked}
 use Rattle.token_core.specs.Refusal.{Refusal, named, out_of_memory}
 use Rattle.token_core.specs.Toks.{Bytes}
 use Rattle.token_text.specs.Depth.{IsTooDeep}
 use Rattle.token_text.specs.declared.piece.Docs.{Docs}
 use Rattle.token_text.specs.Spelling.{SpellsWith, RefusedWith}
 use Rattle.syn_readers.specs.Readers.{Category}
-use Rattle.syn_run.specs.Run.{IsTextOf, RefusedFor, by_memory, Replies, RepliesWithin}
+use Rattle.syn_run.specs.Run.{RefusedFor, by_memory, Replies, RepliesWithin}
 use Rattle.token_text.proofs.TextLaws.{lexed_spelled, lexed_refused}
 use Rattle.syn_run.proofs.Said.{by_no_memory, reply-text, reply-refusal}
 

@@ -17,10 +17,10 @@ use Rattle.token_core.specs.declared.tree.LitKind.TheVariants.{Str}
 use Rattle.token_core.specs.declared.tree.Spacing.{Spacing}
 use Rattle.token_core.specs.declared.tree.Spacing.TheVariants.{Joint, Alone}
 use Rattle.token_core.specs.declared.tree.TokenTree.{TokenTree}
-use Rattle.token_core.specs.Classes.{classed, text_class, is_raw}
+use Rattle.token_core.specs.Classes.{classed, text_class, word_number, is_raw}
 use Rattle.token_core.specs.Levels as levels
 use Rattle.token_core.specs.Levels.{Token, token, tokens, passes, plus, step, ident, with_last, too_deep, Checked}
-use Rattle.token_core.specs.Positions.{an_end, tree_items, row_items, items}
+use Rattle.token_core.specs.Positions.{an_end, tree_items, row_items}
 use Rattle.token_core.specs.Refusal.{Refusal, named, out_of_memory, Stored}
 use Rattle.token_core.specs.Spans.{none, span, delim_span}
 use Rattle.token_core.specs.Toks.{Bytes}
@@ -29,7 +29,7 @@ use Rattle.token_core.specs.Trees.{stream_of_trees}
 use Rattle.token_core.proofs.Cuts.{stream_items}
 use Rattle.token_core.proofs.Positions.{ident_items, punct_items, literal_items, delimited_items}
 use Rattle.token_text.specs.Characters.{Text, is_nothing, after_run}
-use Rattle.token_text.specs.Depth.{after_leaf, after_piece, highest, place, IsTooDeep, Scanned}
+use Rattle.token_text.specs.Depth.{after_piece, highest, place, IsTooDeep, Scanned}
 use Rattle.token_text.specs.Front.{Found, Past, look, front}
 use Rattle.token_text.specs.Pieces.{trees_of, group_tree, word_tree, mark_tree, past_quote, doc_marks, doc_group, doc_literal}
 use Rattle.token_text.specs.Reading.{Frame, State, state, start, same, closed, opened, act, with_more, finished, turn, reads, lexed_with}
@@ -43,7 +43,7 @@ use Rattle.token_text.specs.declared.piece.Leaf.TheVariants.{Blank, Doc, Word, L
 use Rattle.token_text.specs.declared.piece.Piece.{Piece}
 use Rattle.token_text.specs.declared.piece.Piece.TheVariants.{Leaf, Open, Close}
 use Rattle.token_text.proofs.TextLaws.{same_is, lexed_spelled, lexed_refused}
-use Rattle.token_text.proofs.Steps.{reads_end, reads_faulty, front_refused, blanks_go, look_ahead, look_goes, look_stops}
+use Rattle.token_text.proofs.Steps.{reads_end, reads_faulty, blanks_go, look_ahead, look_goes, look_stops}
 
 then_is : {A : Type 0} (b : Bool) (x y : A) → b ≡ true → (if b then x else y) ≡ x
 then_is true x y h = refl
@@ -154,7 +154,7 @@ turned : (at d : ℕ) (x : State) (y : State × ℕ) (o : Result Found ErrorKind
 turned at d x y (Err k) h = cc
 turned at d x y (Ok f) h = acted _ _ _ f.piece x y (act _ _ f.piece x) refl h
 
-goes_on : (x : State) (l : List TokenTree) (o : Result (State × ℕ) Refusal) (go : State × ℕ → Result (List TokenTree) Refusal) → elim o [ Ok y ↦ go y | Err e ↦ Err e ] ≡ Ok l
+goes_on : (x : State) (l : List TokenTree) (o : Result (State × ℕ) Refusal) (go : State × ℕ → Result (List TokenTree) Refusal) → elim o as (λ (_ : Result (State × ℕ) Refusal). Result (List TokenTree) Refusal) [ Ok y ↦ go y | Err e ↦ Err e ] ≡ Ok l
     → ((y : State × ℕ) → o ≡ Ok y → Grown x y.0) → ((y : State × ℕ) → go y ≡ Ok l → More y.0 l) → More x l
 goes_on x l (Err e) go h g m = cc
 goes_on x l (Ok y) go h g m =
@@ -214,7 +214,7 @@ abbrev of_group : Span → List Token
 of_group s = (c.Open Bracket, s) ∷ (c.Ident, s) ∷ (c.Mark Alone 61, s) ∷ (c.Literal Str, s) ∷ (c.End, none) ∷ []
 
 doc_class : text_class (codes "doc") ≡ c.Ident
-unfolding text_class
+unfolding text_class word_number
 doc_class = refl
 
 marks_tokens : (style : Style) (s : Span) → tokens (doc_marks style s) ≡ before_group style s
@@ -340,7 +340,7 @@ module _ (docs : Docs) (limit : ℕ) where
   -- Of a text with tokens the levels are those of what is read of it so far, within the limit.
   abbrev pub Reached : Result (List TokenTree) Refusal → ℕ → Text → levels.State → Type 0
   Reached (Ok l) at cs y =
-      (x : State) × ((Ok l ≡ reads docs 0 at x cs) × ((y ≡ passed (flat_of x) levels.start) × ((passes limit (flat_of x) levels.start ≡ None) × (y.here ≤ limit))))
+      (x : State) × (Ok l ≡ reads docs 0 at x cs) × (y ≡ passed (flat_of x) levels.start) × (passes limit (flat_of x) levels.start ≡ None) × (y.here ≤ limit)
   Reached (Err e) at cs y = Unit {0}
 
   pub reached_first : (at : ℕ) (o : Result (List TokenTree) Refusal) (cs : Text) (y : levels.State) → o ≡ reads docs 0 at start cs → y ≡ levels.start → Reached o at cs y
@@ -351,15 +351,15 @@ module _ (docs : Docs) (limit : ℕ) where
   unfolding too_deep
   reached_end at (Ok l) [] y h r =
       let x = r.0 in
-      let e : finished x.open_groups x.so_far ≡ Ok l = sym (r.1.0 ∙ reads_end docs at x) in
-      ap (λ k. passes limit k levels.start) (flat_end x.open_groups x.so_far l e) ∙ r.1.1.1.0
+      let e : finished x.open_groups x.so_far ≡ Ok l = sym (r.1 ∙ reads_end docs at x) in
+      ap (λ k. passes limit k levels.start) (flat_end x.open_groups x.so_far l e) ∙ r.3
   reached_end at (Ok l) (d ∷ cs) y h r = cc
   reached_end at (Err e) cs y h r = tt
 
   pub reached_fault : (at : ℕ) (o : Result (List TokenTree) Refusal) (cs : Text) (k : ErrorKind) (y : levels.State) → is_nothing cs ≡ false → front docs cs ≡ Err k
       → Reached o at cs y → Scanned limit o (Ok tt)
   reached_fault at (Ok l) [] k y n h r = cc
-  reached_fault at (Ok l) (d ∷ cs) k y n h r = let e = r.1.0 ∙ reads_faulty docs k at d r.0 cs h in cc
+  reached_fault at (Ok l) (d ∷ cs) k y n h r = let e = r.1 ∙ reads_faulty docs k at d r.0 cs h in cc
   reached_fault at (Err e) cs k y n h r = tt
 
   module _ (text rest after : List ℕ) (p : Piece) (y : levels.State) (le : length rest ≤ length text) (found : look docs (chars rest) ≡ Ok (p, chars after))
@@ -404,7 +404,7 @@ module _ (docs : Docs) (limit : ℕ) where
 
     pub reached_more : (o : Result (List TokenTree) Refusal) → lexed_with docs text ≡ o → Reached o At (chars rest) y → nat_lt limit (highest p (after_piece p b y)) ≡ false
         → Reached o Then (chars after) (after_piece p b y)
-    reached_more (Ok l) e r n = more_by l e r.0 (e ∙ r.1.0) r.1.1.0 r.1.1.1.0 r.1.1.1.1 (act s b p r.0) refl n
+    reached_more (Ok l) e r n = more_by l e r.0 (e ∙ r.1) r.2 r.3 r.4 (act s b p r.0) refl n
     reached_more (Err f) e r n = tt
 
     refused_there : (o : Option Span) (t : Span) (f : Refusal) → o ≡ Some t → Stored f (named NestedTooDeep t) → Checked o (Err f)
@@ -418,7 +418,7 @@ module _ (docs : Docs) (limit : ℕ) where
 
     pub reached_limit : (o : Result (List TokenTree) Refusal) → lexed_with docs text ≡ o → Reached o At (chars rest) y → nat_lt limit (highest p (after_piece p b y)) ≡ true
         → (f : Refusal) → Stored f (named NestedTooDeep (place p s)) → Scanned limit o (Err f)
-    reached_limit (Ok l) e r n f h = refused_there (too_deep limit l) (place p s) f (deep_by l e r.0 (e ∙ r.1.0) r.1.1.0 r.1.1.1.0 r.1.1.1.1 (act s b p r.0) refl n) h
+    reached_limit (Ok l) e r n f h = refused_there (too_deep limit l) (place p s) f (deep_by l e r.0 (e ∙ r.1) r.2 r.3 r.4 (act s b p r.0) refl n) h
     reached_limit (Err g) e r n f h = unread (place p s) f h
 
   pub no_memory : (o : Result (List TokenTree) Refusal) (f : Refusal) → f ≡ out_of_memory → Scanned limit o (Err f)
@@ -429,7 +429,7 @@ module _ (docs : Docs) (limit : ℕ) where
   pub reached_blanks : (text rest after : List ℕ) (o : Result (List TokenTree) Refusal) (y : levels.State) → lexed_with docs text ≡ o → length rest ≤ length text
       → Past rest after → chars after ≡ after_run classes.Blank (chars rest) → Reached o (length text - length rest) (chars rest) y
       → Reached o (length text - length after) (chars after) y
-  reached_blanks text rest after (Ok l) y e le past run r = (r.0, sym e ∙ blanks_go docs text rest after r.0 (e ∙ r.1.0) le past run, r.1.1)
+  reached_blanks text rest after (Ok l) y e le past run r = (r.0, sym e ∙ blanks_go docs text rest after r.0 (e ∙ r.1) le past run, r.2, r.3, r.4)
   reached_blanks text rest after (Err f) y e le past run r = tt
 
   -- a piece takes something
