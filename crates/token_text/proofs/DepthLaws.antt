@@ -1,9 +1,9 @@
 -- The levels of a text's pieces are those of the list that it spells.
-use Rattle.std.proofs.Common.{◌≡◌, ℕ, zero, suc, ◌+◌, ◌-◌, ◌<◌, ◌≤◌, IfErr, ◌⊎◌, inl, inr, Bool, true, false, if◌then◌else◌, List, [], ◌∷◌, ◌++◌, map, length, chars, codes, Option, Some, None, Result, Ok, Err, refl, sym, ap, ◌∙◌, subst, arith, append_assoc, append-nil}
+use Rattle.std.proofs.Common.{◌≡◌, ℕ, zero, suc, ◌+◌, ◌-◌, ◌<◌, ◌≤◌, inl, inr, Bool, true, false, if◌then◌else◌, List, [], ◌∷◌, ◌++◌, map, length, take, drop, take_at, drop_at, chars, codes, encode_utf8_all, Option, Some, None, Result, Ok, Err, refl, sym, ap, ap₂, ◌∙◌, arith, append_assoc, append-nil, length-append}
 use Rattle.std.specs.Prelude.{nat_lt}
 use Rattle.std.specs.Char.{len_utf8}
 use Rattle.std.proofs.lemmas.Bool.{cases_Bool}
-use Rattle.std.proofs.lemmas.List.{map-append}
+use Rattle.std.proofs.lemmas.List.{map-append, append_cancel_right}
 use Rattle.token_core.specs.declared.class.Class.{Class}
 use Rattle.token_core.specs.declared.class.Class.TheVariants as c
 use Rattle.token_core.specs.declared.error.ErrorKind.{ErrorKind}
@@ -28,12 +28,13 @@ use Rattle.token_core.specs.Trees as trees
 use Rattle.token_core.specs.Trees.{stream_of_trees}
 use Rattle.token_core.proofs.Cuts.{stream_items}
 use Rattle.token_core.proofs.Positions.{ident_items, punct_items, literal_items, delimited_items}
-use Rattle.token_text.specs.Characters.{Text, is_nothing, after_run}
-use Rattle.token_text.specs.Depth.{after_piece, highest, place, IsTooDeep, Scanned}
-use Rattle.token_text.specs.Front.{Found, Past, look, front}
+use Rattle.token_text.specs.Characters.{Text, size, upto, is_nothing, is_blank, passes as passes_class, after_run}
+use Rattle.token_text.specs.Depth.{piece_tokens, found_tokens, tokens_from, text_tokens, deep_at, after_piece, highest, place}
+use Rattle.token_text.specs.Front.{Found, found, Past, look, front}
 use Rattle.token_text.specs.Pieces.{trees_of, group_tree, word_tree, mark_tree, past_quote, doc_marks, doc_group, doc_literal}
-use Rattle.token_text.specs.Reading.{Frame, State, state, start, same, closed, opened, act, with_more, finished, turn, reads, lexed_with}
-use Rattle.token_text.specs.Spelling.{SpellsWith, RefusedWith}
+use Rattle.token_text.specs.Reading.{Frame, State, state, start, same, closed, opened, act, with_more, finished, turn, reads}
+use Rattle.token_text.specs.Spelling as rules
+use Rattle.token_text.specs.Spelling.{SpellsWith}
 use Rattle.token_text.specs.declared.class.Class.TheVariants as classes
 use Rattle.token_text.specs.declared.piece.Docs.{Docs}
 use Rattle.token_text.specs.declared.piece.Form.{Form}
@@ -42,8 +43,11 @@ use Rattle.token_text.specs.declared.piece.Style.TheVariants.{Outer, Inner}
 use Rattle.token_text.specs.declared.piece.Leaf.TheVariants.{Blank, Doc, Word, Lifetime, Literal, Mark}
 use Rattle.token_text.specs.declared.piece.Piece.{Piece}
 use Rattle.token_text.specs.declared.piece.Piece.TheVariants.{Leaf, Open, Close}
-use Rattle.token_text.proofs.TextLaws.{same_is, lexed_spelled, lexed_refused}
-use Rattle.token_text.proofs.Steps.{reads_end, reads_faulty, blanks_go, look_ahead, look_goes, look_stops}
+use Rattle.token_text.proofs.TextLaws.{same_is, lexed_spelled}
+use Rattle.token_text.proofs.Steps.{size-cons, look_ahead, front_looked}
+use Rattle.token_text.proofs.PieceLaws.{front_splits, front_only}
+use Rattle.token_text.proofs.CharacterLaws.{which}
+use Rattle.token_text.proofs.Words.{spelled_so}
 
 then_is : {A : Type 0} (b : Bool) (x y : A) → b ≡ true → (if b then x else y) ≡ x
 then_is true x y h = refl
@@ -109,12 +113,6 @@ flat_more (f ∷ fs) ts us =
     ap (λ z. flat fs f.before ++ (c.Open f.delimiter, f.span) ∷ z) (tokens_append ts us)
     ∙ sym (append_assoc (flat fs f.before) ((c.Open f.delimiter, f.span) ∷ tokens ts) (tokens us))
 
--- the tokens of a piece
-abbrev pub piece_tokens : Piece → Span → Bytes → List Token
-piece_tokens (Leaf k) s b = tokens (trees_of k s b)
-piece_tokens (Open d) s b = (c.Open d, s) ∷ []
-piece_tokens (Close d) s b = (c.End, none) ∷ []
-
 flat_close : (d : Delimiter) (s : Span) (fs : List Frame) (ts : List TokenTree) (y : State) → closed d s fs ts ≡ Ok y → flat_of y ≡ flat fs ts ++ (c.End, none) ∷ []
 flat_close d s [] ts y h = cc
 flat_close d s (f ∷ fs) ts y h = elim (cases_Bool (same f.delimiter d)) [
@@ -139,36 +137,96 @@ flat_end : (fs : List Frame) (ts l : List TokenTree) → finished fs ts ≡ Ok l
 flat_end [] ts l h = let is : ts ≡ l = cc in ap tokens (sym is)
 flat_end (f ∷ fs) ts l h = cc
 
--- what is read goes on with these
-abbrev More : State → List TokenTree → Type 0
-More x l = (r : List Token) × (tokens l ≡ flat_of x ++ r)
+-- ---- the tokens of a text, piece by piece
 
-abbrev Grown : State → State → Type 0
-Grown x y = (r : List Token) × (flat_of y ≡ flat_of x ++ r)
+module _ (docs : Docs) where
+  abbrev from : ℕ → ℕ → Text → List Token
+  from left at cs = tokens_from docs left at cs
 
-acted : (n : ℕ) (s : Span) (b : Bytes) (p : Piece) (x : State) (y : State × ℕ) (o : Result State Refusal) → act s b p x ≡ o → with_more n o ≡ Ok y → Grown x y.0
-acted n s b p x y (Err e) a h = cc
-acted n s b p x y (Ok z) a h = let is : z ≡ y.0 = cc in (piece_tokens p s b, ap flat_of (sym is) ∙ flat_act s b p x z a)
+  from_left : (n at : ℕ) (cs : Text) → from n at cs ≡ from 0 (at + size (take n cs)) (drop n cs)
+  unfolding tokens_from
+  from_left zero at cs = let e : at ≡ at + 0 = omega arith in ap (λ a. from 0 a cs) e
+  from_left (suc n) at [] = refl
+  from_left (suc n) at (c ∷ cs) =
+      let e : (at + len_utf8 c) + size (take n cs) ≡ at + size (c ∷ take n cs) = omega (arith, size-cons c (take n cs)) in
+      from_left n (at + len_utf8 c) cs ∙ ap (λ a. from 0 a (drop n cs)) e
 
-turned : (at d : ℕ) (x : State) (y : State × ℕ) (o : Result Found ErrorKind) → turn at d x o ≡ Ok y → Grown x y.0
-turned at d x y (Err k) h = cc
-turned at d x y (Ok f) h = acted _ _ _ f.piece x y (act _ _ f.piece x) refl h
+  from_found : (at d : ℕ) (cs : Text) (f : Found) → front docs (d ∷ cs) ≡ Ok f → from 0 at (d ∷ cs) ≡ found_tokens at f ++ from (length f.spelled - 1) (at + len_utf8 d) cs
+  unfolding tokens_from
+  from_found at d cs f h = rw (h, tokens_from) refl
 
-goes_on : (x : State) (l : List TokenTree) (o : Result (State × ℕ) Refusal) (go : State × ℕ → Result (List TokenTree) Refusal) → elim o as (λ (_ : Result (State × ℕ) Refusal). Result (List TokenTree) Refusal) [ Ok y ↦ go y | Err e ↦ Err e ] ≡ Ok l
-    → ((y : State × ℕ) → o ≡ Ok y → Grown x y.0) → ((y : State × ℕ) → go y ≡ Ok l → More y.0 l) → More x l
-goes_on x l (Err e) go h g m = cc
-goes_on x l (Ok y) go h g m =
-    let a = g y refl in
-    let b = m y h in
-    (a.0 ++ b.0, b.1 ∙ ap (λ z. z ++ b.0) a.1 ∙ append_assoc (flat_of x) a.0 b.0)
+  from_fault : (at d : ℕ) (cs : Text) (k : ErrorKind) → front docs (d ∷ cs) ≡ Err k → from 0 at (d ∷ cs) ≡ []
+  unfolding tokens_from
+  from_fault at d cs k h = rw (h, tokens_from) refl
 
-extends : (docs : Docs) (n at : ℕ) (x : State) (cs : Text) (l : List TokenTree) → reads docs n at x cs ≡ Ok l → More x l
-unfolding reads
-extends docs n at x [] l h = ([], flat_end x.open_groups x.so_far l h ∙ sym (append-nil (flat_of x)))
-extends docs (suc n) at x (d ∷ cs) l h = extends docs n (at + len_utf8 d) x cs l h
-extends docs zero at x (d ∷ cs) l h =
-    goes_on x l (turn at d x (front docs (d ∷ cs))) (λ y. reads docs y.1 (at + len_utf8 d) y.0 cs) h (λ y e. turned at d x y (front docs (d ∷ cs)) e)
-    (λ y k. extends docs y.1 (at + len_utf8 d) y.0 cs l k)
+  from_end : (at : ℕ) → from 0 at [] ≡ []
+  unfolding tokens_from
+  from_end at = refl
+
+  from_piece : (at : ℕ) (cs w rest : Text) (p : Piece) → front docs cs ≡ Ok (found p w rest)
+      → from 0 at cs ≡ piece_tokens p (span at (at + size w)) (encode_utf8_all w) ++ from 0 (at + size w) rest
+  from_piece at cs [] rest p h = let s = front_splits docs cs (found p [] rest) h in absurd (omega (arith, s.some))
+  from_piece at [] (c ∷ w) rest p h = let s = front_splits docs [] (found p (c ∷ w) rest) h in let e = s.whole in cc
+  from_piece at (d ∷ cs) (c ∷ w) rest p h =
+      let s = front_splits docs (d ∷ cs) (found p (c ∷ w) rest) h in
+      let whole = s.whole in
+      let same : d ≡ c = cc in
+      let tail : cs ≡ w ++ rest = cc in
+      let n : suc (length w) - 1 ≡ length w = omega arith in
+      let e : (at + len_utf8 d) + size w ≡ at + size (c ∷ w) = omega (arith, size-cons c w, ap len_utf8 same) in
+      let here = piece_tokens p (span at (at + size (c ∷ w))) (encode_utf8_all (c ∷ w)) in
+      from_found at d cs (found p (c ∷ w) rest) h
+      ∙ ap (λ m. here ++ from m (at + len_utf8 d) cs) n
+      ∙ ap (λ z. here ++ z)
+      (from_left (length w) (at + len_utf8 d) cs
+      ∙ ap₂ (λ (a : ℕ) (r : Text). from 0 a r)
+      (ap (λ u. (at + len_utf8 d) + size u) (ap (take (length w)) tail ∙ take_at w rest (length w) refl) ∙ e)
+      (ap (drop (length w)) tail ∙ drop_at w rest (length w) refl))
+
+  from_blank : (at d : ℕ) (cs : Text) → is_blank d ≡ true → from 0 at (d ∷ cs) ≡ from 0 (at + len_utf8 d) cs
+  from_blank at d cs h =
+      let one : size (d ∷ []) ≡ len_utf8 d = omega (arith, size-cons d []) in
+      let begins = front_only docs (Leaf Blank) (d ∷ cs) (d ∷ []) cs (record { whole = refl; is_piece = rules.blank h }) in
+      from_piece at (d ∷ cs) (d ∷ []) cs (Leaf Blank) begins ∙ ap (λ n. from 0 (at + n) cs) one
+
+  from_blanks : (at : ℕ) (cs : Text) → (w : Text) × (cs ≡ w ++ after_run classes.Blank cs) × (from 0 at cs ≡ from 0 (at + size w) (after_run classes.Blank cs))
+  unfolding passes_class
+  from_blanks at [] = let e : at ≡ at + 0 = omega arith in ([], refl, ap (λ n. from 0 n []) e)
+  from_blanks at (d ∷ cs) =
+      which (λ ds. (w : Text) × (d ∷ cs ≡ w ++ ds) × (from 0 at (d ∷ cs) ≡ from 0 (at + size w) ds)) (is_blank d)
+      (λ h. (let more = from_blanks (at + len_utf8 d) cs in
+      let e : (at + len_utf8 d) + size more.0 ≡ at + size (d ∷ more.0) = omega (arith, size-cons d more.0) in
+      (d ∷ more.0, ap (λ t. d ∷ t) more.1, from_blank at d cs h ∙ more.2 ∙ ap (λ n. from 0 n (after_run classes.Blank cs)) e)))
+      (λ h. (let e : at ≡ at + 0 = omega arith in ([], refl, ap (λ n. from 0 n (d ∷ cs)) e)))
+
+  -- what is read of a text has these tokens
+  act_by : (l : List TokenTree) (at d : ℕ) (x : State) (cs : Text) (f : Found) (o : Result State Refusal)
+      → act (span at (at + size f.spelled)) (encode_utf8_all f.spelled) f.piece x ≡ o
+      → (elim (with_more (length f.spelled - 1) o) as (λ (_ : Result (State × ℕ) Refusal). Result (List TokenTree) Refusal) [ Ok y ↦ reads docs y.1 (at + len_utf8 d) y.0 cs | Err e ↦ Err e ]) ≡ Ok l
+      → ((y : State) (n : ℕ) → reads docs n (at + len_utf8 d) y cs ≡ Ok l → tokens l ≡ flat_of y ++ from n (at + len_utf8 d) cs)
+      → tokens l ≡ flat_of x ++ (found_tokens at f ++ from (length f.spelled - 1) (at + len_utf8 d) cs)
+  act_by l at d x cs f (Err e) a h go = cc
+  act_by l at d x cs f (Ok z) a h go =
+      let n = length f.spelled - 1 in
+      let more = from n (at + len_utf8 d) cs in
+      go z n h ∙ ap (λ k. k ++ more) (flat_act (span at (at + size f.spelled)) (encode_utf8_all f.spelled) f.piece x z a) ∙ append_assoc (flat_of x) (found_tokens at f) more
+
+  front_by : (l : List TokenTree) (at d : ℕ) (x : State) (cs : Text) (o : Result Found ErrorKind)
+      → (elim (turn at d x o) as (λ (_ : Result (State × ℕ) Refusal). Result (List TokenTree) Refusal) [ Ok y ↦ reads docs y.1 (at + len_utf8 d) y.0 cs | Err e ↦ Err e ]) ≡ Ok l
+      → ((y : State) (n : ℕ) → reads docs n (at + len_utf8 d) y cs ≡ Ok l → tokens l ≡ flat_of y ++ from n (at + len_utf8 d) cs)
+      → tokens l ≡ flat_of x ++ (elim o as (λ (_ : Result Found ErrorKind). List Token) [ Ok f ↦ found_tokens at f ++ from (length f.spelled - 1) (at + len_utf8 d) cs | Err k ↦ [] ])
+  front_by l at d x cs (Err k) h go = cc
+  front_by l at d x cs (Ok f) h go = act_by l at d x cs f (act (span at (at + size f.spelled)) (encode_utf8_all f.spelled) f.piece x) refl h go
+
+  reads_tokens : (n at : ℕ) (x : State) (cs : Text) (l : List TokenTree) → reads docs n at x cs ≡ Ok l → tokens l ≡ flat_of x ++ from n at cs
+  unfolding reads tokens_from
+  reads_tokens n at x [] l h = flat_end x.open_groups x.so_far l h ∙ sym (append-nil (flat_of x))
+  reads_tokens (suc n) at x (d ∷ cs) l h = reads_tokens n (at + len_utf8 d) x cs l h
+  reads_tokens zero at x (d ∷ cs) l h = front_by l at d x cs (front docs (d ∷ cs)) h (λ y n k. reads_tokens n (at + len_utf8 d) y cs l k)
+
+  pub listed : (limit : ℕ) (text : Bytes) (l : List TokenTree) → SpellsWith docs text l → deep_at docs limit text ≡ too_deep limit l
+  unfolding too_deep
+  listed limit text l s = ap (λ k. passes limit k levels.start) (sym (reads_tokens 0 0 start (chars text) l (lexed_spelled docs text l s)))
 
 -- ---- the levels after a piece
 
@@ -336,114 +394,83 @@ piece_beyond limit (Close d) s b x le h = one_beyond limit (c.End, none) [] x h
 
 -- ---- the loop over a text
 
-module _ (docs : Docs) (limit : ℕ) where
-  -- Of a text with tokens the levels are those of what is read of it so far, within the limit.
-  abbrev pub Reached : Result (List TokenTree) Refusal → ℕ → Text → levels.State → Type 0
-  Reached (Ok l) at cs y =
-      (x : State) × (Ok l ≡ reads docs 0 at x cs) × (y ≡ passed (flat_of x) levels.start) × (passes limit (flat_of x) levels.start ≡ None) × (y.here ≤ limit)
-  Reached (Err e) at cs y = Unit {0}
+module _ (docs : Docs) (limit : ℕ) (text : Bytes) where
+  -- Where the text passes the limit is where what is left of it does, from these levels on.
+  abbrev pub Reached : ℕ → Text → levels.State → Type 0
+  Reached at cs y = (y.here ≤ limit) × (deep_at docs limit text ≡ passes limit (tokens_from docs 0 at cs) y)
 
-  pub reached_first : (at : ℕ) (o : Result (List TokenTree) Refusal) (cs : Text) (y : levels.State) → o ≡ reads docs 0 at start cs → y ≡ levels.start → Reached o at cs y
-  reached_first at (Ok l) cs y h e = let here : y.here ≡ 0 = ap (λ (z : levels.State). z.here) e in (start, h, e, refl, omega (arith, here))
-  reached_first at (Err f) cs y h e = tt
+  pub reached_first : (y : levels.State) → y ≡ levels.start → Reached 0 (chars text) y
+  reached_first y e = let here : y.here ≡ 0 = ap (λ (z : levels.State). z.here) e in (omega (arith, here), ap (passes limit (text_tokens docs text)) (sym e))
 
-  pub reached_end : (at : ℕ) (o : Result (List TokenTree) Refusal) (cs : Text) (y : levels.State) → is_nothing cs ≡ true → Reached o at cs y → Scanned limit o (Ok tt)
-  unfolding too_deep
-  reached_end at (Ok l) [] y h r =
-      let x = r.0 in
-      let e : finished x.open_groups x.so_far ≡ Ok l = sym (r.1 ∙ reads_end docs at x) in
-      ap (λ k. passes limit k levels.start) (flat_end x.open_groups x.so_far l e) ∙ r.3
-  reached_end at (Ok l) (d ∷ cs) y h r = cc
-  reached_end at (Err e) cs y h r = tt
+  pub reached_end : (at : ℕ) (cs : Text) (y : levels.State) → is_nothing cs ≡ true → Reached at cs y → Checked (deep_at docs limit text) (Ok tt)
+  reached_end at [] y h r = r.1 ∙ ap (λ k. passes limit k y) (from_end docs at)
+  reached_end at (d ∷ cs) y h r = cc
 
-  pub reached_fault : (at : ℕ) (o : Result (List TokenTree) Refusal) (cs : Text) (k : ErrorKind) (y : levels.State) → is_nothing cs ≡ false → front docs cs ≡ Err k
-      → Reached o at cs y → Scanned limit o (Ok tt)
-  reached_fault at (Ok l) [] k y n h r = cc
-  reached_fault at (Ok l) (d ∷ cs) k y n h r = let e = r.1 ∙ reads_faulty docs k at d r.0 cs h in cc
-  reached_fault at (Err e) cs k y n h r = tt
+  pub reached_fault : (at : ℕ) (cs : Text) (k : ErrorKind) (y : levels.State) → is_nothing cs ≡ false → front docs cs ≡ Err k → Reached at cs y
+      → Checked (deep_at docs limit text) (Ok tt)
+  reached_fault at [] k y n h r = cc
+  reached_fault at (d ∷ cs) k y n h r = r.1 ∙ ap (λ t. passes limit t y) (from_fault docs at d cs k h)
 
-  module _ (text rest after : List ℕ) (p : Piece) (y : levels.State) (le : length rest ≤ length text) (found : look docs (chars rest) ≡ Ok (p, chars after))
-      (past : Past rest after) (s : Span) (b : List ℕ) (cut : rest ≡ b ++ after) (is : s ≡ span (length text - length rest) (length text - length after)) where
+  module _ (rest after : List ℕ) (y : levels.State) (le : length rest ≤ length text) (past : Past rest after) where
     abbrev At : ℕ
     At = length text - length rest
 
     abbrev Then : ℕ
     Then = length text - length after
 
-    module _ (l : List TokenTree) (e : lexed_with docs text ≡ Ok l) (x : State) (known : lexed_with docs text ≡ reads docs 0 At x (chars rest))
-        (from : y ≡ passed (flat_of x) levels.start) (none_yet : passes limit (flat_of x) levels.start ≡ None) (here : y.here ≤ limit) where
-      no_stop : (r : Refusal) → act s b p x ≡ Err r → Ok l ≡ Err r
-      no_stop r a = sym e ∙ look_stops docs text rest after p x known le found past s b r cut is a
+    -- blanks are passed over
+    pub reached_blanks : chars after ≡ after_run classes.Blank (chars rest) → Reached At (chars rest) y → Reached Then (chars after) y
+    reached_blanks run r =
+        let more = from_blanks docs At (chars rest) in
+        let same : more.0 ≡ past.front = append_cancel_right more.0 past.front (chars after) (ap (λ t. more.0 ++ t) run ∙ sym more.1 ∙ past.whole) in
+        let e : At + size more.0 ≡ Then = omega (arith, le, ap size same, ap length past.split, length-append (encode_utf8_all past.front) after) in
+        (r.0, r.1 ∙ ap (λ k. passes limit k y) (more.2 ∙ ap₂ (λ (n : ℕ) (t : Text). tokens_from docs 0 n t) e (sym run)))
 
-      goes_to : (z : State) → act s b p x ≡ Ok z → Ok l ≡ reads docs 0 Then z (chars after)
-      goes_to z a = sym e ∙ look_goes docs text rest after p x known le found past s b z cut is a
+    module _ (p : Piece) (found_there : look docs (chars rest) ≡ Ok (p, chars after)) (s : Span) (b : List ℕ) (cut : rest ≡ b ++ after)
+        (is : s ≡ span (length text - length rest) (length text - length after)) where
+      abbrev W : Text
+      W = upto (chars rest) (chars after)
 
-      more_by : (a : Result State Refusal) → act s b p x ≡ a → nat_lt limit (highest p (after_piece p b y)) ≡ false → Reached (Ok l) Then (chars after) (after_piece p b y)
-      more_by (Err r) a n = let f = no_stop r a in cc
-      more_by (Ok z) a n =
-          let f = flat_act s b p x z a in
-          let pts = piece_tokens p s b in (
-            z,
-            goes_to z a,
-            sym (piece_passed p s b y) ∙ ap (passed pts) from ∙ sym (passed_append (flat_of x) pts levels.start) ∙ ap (λ k. passed k levels.start) (sym f),
-            ap (λ k. passes limit k levels.start) f ∙ passes_append limit (flat_of x) pts levels.start none_yet ∙ ap (passes limit pts) (sym from) ∙ piece_within limit p s b y here n,
-            piece_stays limit p b y here n,
+      bytes : encode_utf8_all W ≡ b
+      bytes = spelled_so rest b after past cut
+
+      ends : At + size W ≡ Then
+      ends = let n : length rest ≡ length b + length after = ap length cut ∙ length-append b after in omega (arith, le, n, ap length bytes)
+
+      -- the tokens of the piece stand before those of what follows it
+      goes : tokens_from docs 0 At (chars rest) ≡ piece_tokens p s b ++ tokens_from docs 0 Then (chars after)
+      goes =
+          from_piece docs At (chars rest) W (chars after) p (front_looked docs (chars rest) (chars after) p found_there)
+          ∙ ap (λ n. piece_tokens p (span At n) (encode_utf8_all W) ++ tokens_from docs 0 n (chars after)) ends
+          ∙ ap (λ c. piece_tokens p (span At Then) c ++ tokens_from docs 0 Then (chars after)) bytes
+          ∙ ap (λ t. piece_tokens p t b ++ tokens_from docs 0 Then (chars after)) (sym is)
+
+      pub reached_more : Reached At (chars rest) y → nat_lt limit (highest p (after_piece p b y)) ≡ false → Reached Then (chars after) (after_piece p b y)
+      reached_more r n =
+          let more = tokens_from docs 0 Then (chars after) in (
+            piece_stays limit p b y r.0 n,
+            r.1 ∙ ap (λ k. passes limit k y) goes ∙ passes_append limit (piece_tokens p s b) more y (piece_within limit p s b y r.0 n)
+            ∙ ap (passes limit more) (piece_passed p s b y),
           )
 
-      deep_by : (a : Result State Refusal) → act s b p x ≡ a → nat_lt limit (highest p (after_piece p b y)) ≡ true → too_deep limit l ≡ Some (place p s)
-      unfolding too_deep
-      deep_by (Err r) a n = let f = no_stop r a in cc
-      deep_by (Ok z) a n =
-          let f = flat_act s b p x z a in
-          let pts = piece_tokens p s b in
-          let m = extends docs 0 Then z (chars after) l (sym (goes_to z a)) in
-          ap (λ k. passes limit k levels.start) (m.1 ∙ ap (λ k. k ++ m.0) f ∙ append_assoc (flat_of x) pts m.0)
-          ∙ passes_append limit (flat_of x) (pts ++ m.0) levels.start none_yet
-          ∙ ap (passes limit (pts ++ m.0)) (sym from)
-          ∙ passes_before limit pts m.0 y (place p s) (piece_beyond limit p s b y here n)
+      refused_there : (o : Option Span) (t : Span) (f : Refusal) → o ≡ Some t → Stored f (named NestedTooDeep t) → Checked o (Err f)
+      refused_there (Some u) t f e (inl h) = let q : u ≡ t = cc in inr (rw q h)
+      refused_there (Some u) t f e (inr h) = inl h
+      refused_there None t f e h = cc
 
-    pub reached_more : (o : Result (List TokenTree) Refusal) → lexed_with docs text ≡ o → Reached o At (chars rest) y → nat_lt limit (highest p (after_piece p b y)) ≡ false
-        → Reached o Then (chars after) (after_piece p b y)
-    reached_more (Ok l) e r n = more_by l e r.0 (e ∙ r.1) r.2 r.3 r.4 (act s b p r.0) refl n
-    reached_more (Err f) e r n = tt
+      pub reached_limit : Reached At (chars rest) y → nat_lt limit (highest p (after_piece p b y)) ≡ true → (f : Refusal) → Stored f (named NestedTooDeep (place p s))
+          → Checked (deep_at docs limit text) (Err f)
+      reached_limit r n f h =
+          let more = tokens_from docs 0 Then (chars after) in
+          refused_there (deep_at docs limit text) (place p s) f
+          (r.1 ∙ ap (λ k. passes limit k y) goes ∙ passes_before limit (piece_tokens p s b) more y (place p s) (piece_beyond limit p s b y r.0 n)) h
 
-    refused_there : (o : Option Span) (t : Span) (f : Refusal) → o ≡ Some t → Stored f (named NestedTooDeep t) → Checked o (Err f)
-    refused_there (Some u) t f e (inl h) = let q : u ≡ t = cc in inr (rw q h)
-    refused_there (Some u) t f e (inr h) = inl h
-    refused_there None t f e h = cc
+  pub no_memory : (f : Refusal) → f ≡ out_of_memory → Checked (deep_at docs limit text) (Err f)
+  no_memory f h = inl h
 
-    unread : (t : Span) (f : Refusal) → Stored f (named NestedTooDeep t) → (f ≡ out_of_memory) ⊎ IsTooDeep f
-    unread t f (inl h) = inr (t, h)
-    unread t f (inr h) = inl h
-
-    pub reached_limit : (o : Result (List TokenTree) Refusal) → lexed_with docs text ≡ o → Reached o At (chars rest) y → nat_lt limit (highest p (after_piece p b y)) ≡ true
-        → (f : Refusal) → Stored f (named NestedTooDeep (place p s)) → Scanned limit o (Err f)
-    reached_limit (Ok l) e r n f h = refused_there (too_deep limit l) (place p s) f (deep_by l e r.0 (e ∙ r.1) r.2 r.3 r.4 (act s b p r.0) refl n) h
-    reached_limit (Err g) e r n f h = unread (place p s) f h
-
-  pub no_memory : (o : Result (List TokenTree) Refusal) (f : Refusal) → f ≡ out_of_memory → Scanned limit o (Err f)
-  no_memory (Ok l) f h = inl h
-  no_memory (Err e) f h = inl h
-
-  -- blanks are passed over
-  pub reached_blanks : (text rest after : List ℕ) (o : Result (List TokenTree) Refusal) (y : levels.State) → lexed_with docs text ≡ o → length rest ≤ length text
-      → Past rest after → chars after ≡ after_run classes.Blank (chars rest) → Reached o (length text - length rest) (chars rest) y
-      → Reached o (length text - length after) (chars after) y
-  reached_blanks text rest after (Ok l) y e le past run r = (r.0, sym e ∙ blanks_go docs text rest after r.0 (e ∙ r.1) le past run, r.2, r.3, r.4)
-  reached_blanks text rest after (Err f) y e le past run r = tt
-
-  -- a piece takes something
-  pub look_less : (rest after : List ℕ) (p : Piece) → look docs (chars rest) ≡ Ok (p, chars after) → Past rest after → length after < length rest
-  look_less rest after p h past =
-      let at : 0 ≡ length rest - length rest = omega arith in
-      let le : length rest ≤ length rest = omega arith in
-      look_ahead docs rest rest after p start (ap (λ n. reads docs 0 n start (chars rest)) at) le h past
-
-  -- ---- by what the text spells
-
-  module _ (text : Bytes) (r : Result (Unit {0}) Refusal) (h : Scanned limit (lexed_with docs text) r) where
-    pub scan_spelt : (l : List TokenTree) → SpellsWith docs text l → Checked (too_deep limit l) r
-    scan_spelt l s = subst (λ o. Scanned limit o r) (lexed_spelled docs text l s) h
-
-    pub scan_unspelt : (e : Refusal) → RefusedWith docs text e → IfErr r (λ f. (f ≡ out_of_memory) ⊎ IsTooDeep f)
-    scan_unspelt e s = subst (λ o. Scanned limit o r) (lexed_refused docs text e s) h
+-- a piece takes something
+pub look_less : (docs : Docs) (rest after : List ℕ) (p : Piece) → look docs (chars rest) ≡ Ok (p, chars after) → Past rest after → length after < length rest
+look_less docs rest after p h past =
+    let at : 0 ≡ length rest - length rest = omega arith in
+    let le : length rest ≤ length rest = omega arith in
+    look_ahead docs rest rest after p start (ap (λ n. reads docs 0 n start (chars rest)) at) le h past

@@ -12,7 +12,7 @@ mod CommentLaws
 mod Steps
 mod CharacterLaws
 mod PieceLaws
-pub mod TextLaws
+mod TextLaws
 mod StringLaws
 mod WholeLaws
 mod MovingLaws

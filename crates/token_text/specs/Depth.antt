@@ -1,20 +1,47 @@
--- How deep a text nests: as deep as the list that it spells (`token_core/specs/Levels.antt`).
-use Rattle.std.specs.Prelude.{◌≡◌, ◌⊎◌, ℕ, List, Result, Ok, Err, IfErr}
-use Rattle.token_core.specs.declared.error.ErrorKind.TheVariants.{NestedTooDeep}
+-- How deep a text nests: as its tokens do (`token_core/specs/Levels.antt`).
+use Rattle.std.specs.Prelude.{ℕ, zero, suc, ◌+◌, ◌-◌, List, [], ◌∷◌, ◌++◌, length, chars, encode_utf8_all, Option, Ok, Err}
+use Rattle.std.specs.Char.{len_utf8}
+use Rattle.token_core.specs.declared.class.Class.TheVariants as classes
 use Rattle.token_core.specs.declared.levels.Last.TheVariants.{Value, Other}
 use Rattle.token_core.specs.declared.span.Span.{Span}
 use Rattle.token_core.specs.declared.tree.Spacing.TheVariants.{Joint}
-use Rattle.token_core.specs.declared.tree.TokenTree.{TokenTree}
 use Rattle.token_core.specs.Classes.{text_class}
-use Rattle.token_core.specs.Levels.{State, plus, ident, mark, with_last, open_group, close_group, too_deep, Checked}
-use Rattle.token_core.specs.Refusal.{Refusal, named, out_of_memory}
-use Rattle.token_core.specs.Spans.{none}
+use Rattle.token_core.specs.Levels.{State, Token, tokens, passes, start, plus, ident, mark, with_last, open_group, close_group}
+use Rattle.token_core.specs.Spans.{none, span}
 use Rattle.token_core.specs.Toks.{Bytes}
+use Rattle.token_text.specs.declared.piece.Docs.{Docs}
 use Rattle.token_text.specs.declared.piece.Leaf as leaves
 use Rattle.token_text.specs.declared.piece.Leaf.TheVariants.{Blank, Doc, Word, Lifetime, Literal, Mark}
 use Rattle.token_text.specs.declared.piece.Piece.{Piece}
 use Rattle.token_text.specs.declared.piece.Piece.TheVariants.{Leaf, Open, Close}
-use Rattle.token_text.specs.Pieces.{past_quote}
+use Rattle.token_text.specs.Characters.{Text, size}
+use Rattle.token_text.specs.Front.{Found, front}
+use Rattle.token_text.specs.Pieces.{past_quote, trees_of}
+
+-- ---- the tokens of a text
+
+-- the tokens of a piece whose place and bytes these are
+abbrev pub piece_tokens : Piece → Span → Bytes → List Token
+piece_tokens (Leaf k) s b = tokens (trees_of k s b)
+piece_tokens (Open d) s b = (classes.Open d, s) ∷ []
+piece_tokens (Close d) s b = (classes.End, none) ∷ []
+
+abbrev pub found_tokens : ℕ → Found → List Token
+found_tokens at f = piece_tokens f.piece (span at (at + size f.spelled)) (encode_utf8_all f.spelled)
+
+-- The tokens of the pieces of a text that begins at an offset, up to where none begins. The first number counts the characters that are left of a piece.
+unfoldable pub tokens_from : Docs → ℕ → ℕ → Text → List Token
+tokens_from docs left at [] = []
+tokens_from docs (suc left) at (c ∷ cs) = tokens_from docs left (at + len_utf8 c) cs
+tokens_from docs zero at (c ∷ cs) =
+    elim (front docs (c ∷ cs)) [ Ok f ↦ found_tokens at f ++ tokens_from docs (length f.spelled - 1) (at + len_utf8 c) cs | Err k ↦ [] ]
+
+abbrev pub text_tokens : Docs → Bytes → List Token
+text_tokens docs text = tokens_from docs 0 0 (chars text)
+
+-- the place of the first token of a text whose level is above a limit
+abbrev pub deep_at : Docs → ℕ → Bytes → Option Span
+deep_at docs limit text = passes limit (text_tokens docs text) start
 
 -- ---- the levels after a piece of these bytes
 
@@ -47,13 +74,3 @@ abbrev pub place : Piece → Span → Span
 place (Leaf k) s = s
 place (Open d) s = s
 place (Close d) s = none
-
--- ---- texts that pass a limit
-
-abbrev pub IsTooDeep : Refusal → Type 0
-IsTooDeep f = (s : Span) × (f ≡ named NestedTooDeep s)
-
--- a text that is cut into tokens passes a limit where they do; another one may be refused for the tokens that stand before what is none
-abbrev pub Scanned : ℕ → Result (List TokenTree) Refusal → Result (Unit {0}) Refusal → Type 0
-Scanned limit (Ok l) r = Checked (too_deep limit l) r
-Scanned limit (Err e) r = IfErr r (λ f. (f ≡ out_of_memory) ⊎ IsTooDeep f)

@@ -1,12 +1,10 @@
 //! Texts that nest too deep.
 
-ghost use Rattle.std.specs.Prelude.{◌≡◌, ◌⊎◌, List, IfErr, IfOk};
+ghost use Rattle.std.specs.Prelude.{◌≡◌, List, IfOk};
 ghost use Rattle.token_core.specs.declared.tree.TokenTree.{TokenTree};
 ghost use Rattle.token_core.specs.Levels.{Checked, too_deep};
-ghost use Rattle.token_core.specs.Refusal.{Refusal, out_of_memory};
 ghost use Rattle.token_text.specs.Depth as spec;
-ghost use Rattle.token_text.specs.Reading.{lexed_with};
-ghost use Rattle.token_text.specs.Spelling.{SpellsWith, RefusedWith};
+ghost use Rattle.token_text.specs.Spelling.{SpellsWith};
 
 use crate::front::front;
 use crate::piece::{Docs, Leaf, Piece};
@@ -18,21 +16,19 @@ use token_core::{Error, ErrorKind, Levels, Spacing, Span};
 /// Refuses a text whose tokens nest deeper than a limit (`token_core::nesting`), at the first that passes it, before any list is made.
 ///
 /// So what goes down a list by calls within calls, as a copy, a read, a print and the end of a list do, meets none above the limit. The tokens
-/// are those of `lex_with`: a comment of documentation that is read has the levels of its attribute. A text that spells no list may be refused
-/// so at a token that stands before what is none.
+/// are those of `lex_with`: a comment of documentation that is read has the levels of its attribute. Of a text that spells no list they are
+/// those of its pieces up to where none begins, so that it may be refused so for what stands before the place at which `lex_with` refuses it.
 pub fn check_text(alloc: Global, text: &str, docs: Docs, limit: usize) -> Result<(), Error>
-    // A text that spells a list is refused as the list is (`token_core::check_nesting`), or for want of memory,
-    ensures spelt { (l : List TokenTree) → SpellsWith docs text.now l → Checked (too_deep limit l) result }
-    // and of one that spells none nothing else is said.
-    ensures unspelt { (e : Refusal) → RefusedWith docs text.now e → IfErr result (λ f. (f ≡ out_of_memory) ⊎ spec.IsTooDeep f) }
-    // The same by a function of the text.
-    ensures exact { spec.Scanned limit (lexed_with docs text.now) result }
+    // It is refused at the first token that passes the limit, or else for want of memory,
+    ensures exact { Checked (spec.deep_at docs limit text.now) result }
+    // and that is the first one of the list, where the text spells one (`token_core::check_nesting`).
+    ensures listed { (l : List TokenTree) → SpellsWith docs text.now l → spec.deep_at docs limit text.now ≡ too_deep limit l }
 {
     scan(alloc, text, docs, limit)
 }
 
 fn scan(alloc: Global, text: &str, docs: Docs, limit: usize) -> Result<(), Error>
-    ensures { spec.Scanned limit (lexed_with docs text.now) result }
+    ensures { Checked (spec.deep_at docs limit text.now) result }
 {
     let mut levels = Levels::new(alloc);
     let mut rest = word::after_blanks(text);
