@@ -11,7 +11,7 @@ use Rattle.token_core.specs.declared.span.Span.{Span}
 use Rattle.token_core.specs.declared.error.ErrorKind.TheVariants.{OutOfMemory, NestedTooDeep}
 use Rattle.token_text.specs.declared.piece.Docs.{Docs}
 use Rattle.token_text.specs.declared.piece.Docs.TheVariants.{Refuse}
-use Rattle.token_text.specs.Depth.{IsTooDeep}
+use Rattle.token_text.specs.Depth.{deep_at}
 use Rattle.token_text.specs.Spelling.{SpellsWith, Refused, RefusedWith}
 use Rattle.token_text.specs.Printing.{text_of}
 use Rattle.syn_run.specs.declared.readers.Reader.{Reader}
@@ -121,13 +121,12 @@ pub record Replies {A S : Type 0} (docs : Docs) (C : Category A) (scope : Span) 
   pub justified : JustifiedBy docs C scope text bytes answer
   pub accepts : (l : List TokenTree) (a : A) → IsTextOf docs text l → Visible (row l done) → C.clear a (row l done) → AnswersBy C bytes answer a
 
--- The same within a limit (`token_core/specs/Levels.antt`): a text that nests deeper is refused at the first token that passes it, and any other one is answered as
--- without a limit. One that spells no list may be refused so for what stands before what is none.
+-- The same within a limit: a text of which a token passes the limit is refused at the first such token, and any other one is answered as without a limit. Where the
+-- text spells a list, its tokens are those of the list (`token_core/specs/Levels.antt`).
 pub record RepliesWithin {A S : Type 0} (docs : Docs) (limit : ℕ) (C : Category A) (scope : Span) (text : Bytes) (bytes : S → Bytes) (answer : Result S Refusal) : Type 0 where
-  pub deep : (l : List TokenTree) (s : Span) → IsTextOf docs text l → too_deep limit (stream_of_trees l) ≡ Some s →
-      MatchResult answer (λ _. ⊥) (λ e. (e ≡ out_of_memory) ⊎ (e ≡ named NestedTooDeep s))
-  pub within : (l : List TokenTree) → IsTextOf docs text l → too_deep limit (stream_of_trees l) ≡ None → Replies docs C scope text bytes answer
-  pub no_list : (e : Refusal) → RefusedWith docs text e → MatchResult answer (λ _. ⊥) (λ f. RefusedFor docs C scope text f ⊎ IsTooDeep f)
+  pub deep : (s : Span) → deep_at docs limit text ≡ Some s → MatchResult answer (λ _. ⊥) (λ e. (e ≡ out_of_memory) ⊎ (e ≡ named NestedTooDeep s))
+  pub within : deep_at docs limit text ≡ None → Replies docs C scope text bytes answer
+  pub listed : (l : List TokenTree) → SpellsWith docs text l → deep_at docs limit text ≡ too_deep limit (stream_of_trees l)
 
 -- ---- a run
 
