@@ -80,10 +80,6 @@ abbrev pub passed : List Token → levels.State → levels.State
 passed [] x = x
 passed (t ∷ l) x = passed l (step t.0 x)
 
-passed_append : (a b : List Token) (x : levels.State) → passed (a ++ b) x ≡ passed b (passed a x)
-passed_append [] b x = refl
-passed_append (t ∷ a) b x = passed_append a b (step t.0 x)
-
 passes_append : (limit : ℕ) (a b : List Token) (x : levels.State) → passes limit a x ≡ None → passes limit (a ++ b) x ≡ passes limit b (passed a x)
 passes_append limit [] b x h = refl
 passes_append limit (t ∷ a) b x h = elim (cases_Bool (nat_lt limit (step t.0 x).here)) [
