@@ -62,12 +62,14 @@ static int is_null(uint32_t status) { return status == KULOJENTA_NULL && out[0] 
 
 static int null_pointers(void) {
     int wrong = 0;
-    wrong += is(kulojenta_read(bytes("Type"), 4, bytes("A<B>"), 4, KULOJENTA_LIMIT, NULL, 0, &report) == KULOJENTA_ROOM_IS_SHORT && report.bytes == 7, "out NULL, for its length");
+    wrong += is(kulojenta_read(bytes("Type"), 4, bytes("A<B>"), 4, KULOJENTA_LIMIT, NULL, 0, &report) == KULOJENTA_ROOM_IS_SHORT && report.bytes == 7,
+                "out NULL, for its length");
     wrong += is(kulojenta_note(bytes("a"), 1, bytes("b"), 1, bytes("c"), 1, 0, 1, NULL, 0, &report) == KULOJENTA_ROOM_IS_SHORT, "the same of a note");
     wrong += is(kulojenta_reader(0, NULL, 0, &report) == KULOJENTA_ROOM_IS_SHORT && report.bytes == 5, "the same of a name");
     memset(out, '.', sizeof out);
     wrong += is(kulojenta_read(bytes("Generics"), 8, NULL, 0, KULOJENTA_LIMIT, out, 9, &report) == KULOJENTA_SHOWN && says(""), "a text NULL that is empty");
-    wrong += is(kulojenta_read(NULL, 0, NULL, 0, KULOJENTA_LIMIT, out, 99, &report) == KULOJENTA_UNKNOWN_READER && says("unknown reader"), "a reader NULL that is empty");
+    wrong += is(kulojenta_read(NULL, 0, NULL, 0, KULOJENTA_LIMIT, out, 99, &report) == KULOJENTA_UNKNOWN_READER && says("unknown reader"),
+                "a reader NULL that is empty");
     memset(out, '.', sizeof out);
     report.bytes = 99;
     wrong += is(is_null(kulojenta_read(bytes("Type"), 4, bytes("A"), 1, KULOJENTA_LIMIT, out, 9, NULL)), "a report NULL");
