@@ -1,1 +1,1 @@
-mod LineLaws
+mod EscapeLaws

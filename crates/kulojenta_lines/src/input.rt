@@ -1,6 +1,6 @@
 //! The lines of an input, one after the other.
 
-ghost use Rattle.std.specs.Prelude.{◌≡◌, ◌<◌, length, IfOk, IfSome, IsTrue, OnOk};
+ghost use Rattle.std.specs.Prelude.{◌≡◌, ◌<◌, ◌↔◌, length, IfOk, IfSome, IsTrue, OnOk};
 ghost use Rattle.std.specs.Io.BufRead.{DropsThrough, ends_with_byte, first_line, strip_last};
 ghost use Rattle.kulojenta_lines.specs.Input as spec;
 

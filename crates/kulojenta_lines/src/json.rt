@@ -1,6 +1,6 @@
 //! Answers as lines of JSON, each an object.
 
-ghost use Rattle.std.specs.Prelude.{◌≡◌, ◌<◌, [], ◌∷◌, ◌++◌, chars, encode_utf8, length, MatchOption, IfOk, OnOk, string_bytes};
+ghost use Rattle.std.specs.Prelude.{◌≡◌, ◌<◌, [], ◌∷◌, ◌++◌, chars, length, MatchOption, IfOk, OnOk, string_bytes};
 ghost use Rattle.kulojenta_lines.specs.Json as spec;
 ghost use Rattle.kulojenta_lines.specs.declared.json.Place.{Place};
 

@@ -1,6 +1,6 @@
 use Rattle.std.proofs.Common.{chars, string_bytes, rules}
 use Rattle.kulojenta_lines.specs.Json as spec
-use Rattle.kulojenta_lines.proofs.LineLaws.{escaped_goes}
+use Rattle.kulojenta_lines.proofs.EscapeLaws.{escaped_goes}
 use Rattle.kulojenta_lines.proofs.json.escaped.Goals as goal
 
 pub loop-ch-preserved : goal.loop-ch-preserved

@@ -1,5 +1,5 @@
--- Laws of escaped texts, and of the lines of an input.
-use Rattle.std.proofs.Common.{◌≡◌, ℕ, List, [], ◌∷◌, ◌++◌, append_assoc, sym, ap, ◌∙◌}
+-- Laws of escaped texts.
+use Rattle.std.proofs.Common.{◌≡◌, ℕ, List, ◌∷◌, ◌++◌, append_assoc, sym, ap, ◌∙◌}
 use Rattle.token_core.specs.Toks.{Bytes}
 use Rattle.kulojenta_lines.specs.Json.{escaped, escaped_char}
 
