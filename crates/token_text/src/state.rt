@@ -51,7 +51,7 @@ fn is_same(a: Delimiter, b: Delimiter) -> bool
     a == b
 }
 
-/// The same trees, in no more room than they need; refused, they are dropped.
+/// The same trees, where they stand, in no more room than they need; where room can't be given back, which `shrink_to_fit` hides, they are dropped.
 fn fitted(trees: TokenStream) -> Result<TokenStream, AllocError>
     ensures { IfOk result (λ it. it ≡ trees) }
 {
