@@ -36,9 +36,9 @@ fn index<T: Walk<Attribute, Expr>>(alloc: Global, tree: &T) -> Result<Vec<Named>
     let mut index = Vec::new(alloc);
     for node in nodes(alloc, tree)?.iter() {
         match node {
-            NodeOf::Path(path) => add_name(alloc, path, &mut index)?,
+            NodeOf::Path(path) | NodeOf::QualifiedPath(path, _) => add_name(alloc, path, &mut index)?,
             NodeOf::MacroPath(path) => add_name(alloc, path, &mut index)?,
-            NodeOf::Type(_) | NodeOf::Lifetime(_) => {}
+            _ => {}
         }
     }
     Ok(index)

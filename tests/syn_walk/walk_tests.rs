@@ -18,8 +18,20 @@ fn told(alloc: Global, text: &str, nodes: &Items<Node<'_>>) -> Result<String, Al
         let kind = match node {
             NodeOf::Type(_) => "T",
             NodeOf::Path(_) => "P",
+            NodeOf::QualifiedPath(_, 0) => "Q",
+            NodeOf::QualifiedPath(_, _) => "QT",
             NodeOf::MacroPath(_) => "M",
             NodeOf::Lifetime(_) => "L",
+            NodeOf::Bound(_) => "B",
+            NodeOf::Argument(_) => "G",
+            NodeOf::Attribute(_) => "A",
+            NodeOf::ModPath(_) => "D",
+            NodeOf::MetaArguments(_) => "S",
+            NodeOf::Value(_) => "V",
+            NodeOf::Binding(_, false, false) => "N",
+            NodeOf::Binding(_, true, false) => "N ref",
+            NodeOf::Binding(_, false, true) => "N mut",
+            NodeOf::Binding(_, true, true) => "N ref mut",
         };
         let span = span_of(alloc, node)?;
         let place = text.get(span.lo..span.hi).unwrap_or("nowhere");

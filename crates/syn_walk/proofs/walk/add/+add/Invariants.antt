@@ -9,10 +9,10 @@ abbrev pub invariant-add_types-loop-ty : goal.invariant-add_types-loop-ty
 invariant-add_types-loop-ty g l = seen l.out ++ each spec.ty (drop l.ty-index l.ty-items) ≡ seen l.initial.out ++ each spec.ty l.types.0
 
 abbrev pub invariant-add_inputs-loop-arg : goal.invariant-add_inputs-loop-arg
-invariant-add_inputs-loop-arg g l = seen l.out ++ each (λ x. spec.ty x.ty) (drop l.arg-index l.arg-items) ≡ seen l.initial.out ++ each (λ x. spec.ty x.ty) l.inputs.0
+invariant-add_inputs-loop-arg g l = seen l.out ++ each (λ x. spec.attributes x.attrs ++ spec.ty x.ty) (drop l.arg-index l.arg-items) ≡ seen l.initial.out ++ each (λ x. spec.attributes x.attrs ++ spec.ty x.ty) l.inputs.0
 
-abbrev pub invariant-add_path-loop-segment : goal.invariant-add_path-loop-segment
-invariant-add_path-loop-segment g l = seen l.out ++ each (λ s. spec.arguments s.arguments) (drop l.segment-index l.segment-items) ≡ seen l.initial.out ++ each (λ s. spec.arguments s.arguments) l.path.segments.0
+abbrev pub invariant-add_segments-loop-segment : goal.invariant-add_segments-loop-segment
+invariant-add_segments-loop-segment g l = seen l.out ++ each (λ s. spec.arguments s.arguments) (drop l.segment-index l.segment-items) ≡ seen l.initial.out ++ each (λ s. spec.arguments s.arguments) l.segments.0
 
 abbrev pub invariant-add_each_argument-loop-arg : goal.invariant-add_each_argument-loop-arg
 invariant-add_each_argument-loop-arg g l = seen l.out ++ each spec.argument (drop l.arg-index l.arg-items) ≡ seen l.initial.out ++ each spec.argument l.args.0
