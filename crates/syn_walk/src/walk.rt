@@ -11,10 +11,11 @@ ghost use Rattle.std.specs.Prelude.{◌≡◌, ◌++◌, OnOk, IfOk};
 ghost use Rattle.token_core.specs.Prints.{each, optional};
 ghost use Rattle.syn_walk.specs.walk.Nodes as spec;
 ghost use Rattle.syn_walk.specs.walk.Printing.{printed};
-ghost use Rattle.syn_walk.specs.walk.Nodes.{Visits, seen};
+ghost use Rattle.syn_walk.specs.walk.Nodes.{Visits, saw, seen};
 
 use crate::walk::add::add_attributes;
 use std::alloc::{AllocError, Global};
+use syn_attr::attr::MetaList;
 use syn_path::path::{ModPath, PathOf, PathStyle, print_mod_path};
 use syn_path::supplied::{Attributes, Value};
 use syn_ty::generics::TypeParamBoundOf;
@@ -42,7 +43,7 @@ pub enum NodeOf<'a, A, E> {
     /// A path of mod style: the one that a meta begins with, or one by itself.
     ModPath(&'a ModPath),
     /// What stands in the brackets of a meta.
-    MetaArguments(&'a TokenStream),
+    MetaArguments(&'a MetaList),
     /// What stands after the `=` of a meta.
     Value(&'a E),
     /// The name that a pattern binds; whether by reference, and whether mutable.
@@ -51,7 +52,7 @@ pub enum NodeOf<'a, A, E> {
 
 /// Appends the print of what the node lends, of a binding its name.
 impl<A: Attributes + ToTokens, E: Value + ToTokens> ToTokens for NodeOf<'_, A, E> {
-    ghost print = { printed A.print E.print A.shown E.values };
+    ghost print = { λ node. printed A.print E.print A.shown E.values (saw node) };
 
     fn append_tokens(&self, alloc: Global, out: &mut TokenStream) -> Result<(), AllocError> {
         match self {
@@ -64,7 +65,7 @@ impl<A: Attributes + ToTokens, E: Value + ToTokens> ToTokens for NodeOf<'_, A, E
             NodeOf::Argument(argument) => argument.append_tokens(alloc, out),
             NodeOf::Attribute(attribute) => attribute.append_tokens(alloc, out),
             NodeOf::ModPath(path) => print_mod_path(alloc, path, out),
-            NodeOf::MetaArguments(tokens) => print_verbatim(alloc, tokens, out),
+            NodeOf::MetaArguments(list) => print_verbatim(alloc, &list.tokens, out),
             NodeOf::Value(value) => value.append_tokens(alloc, out),
             NodeOf::Binding(name, _, _) => name.append_tokens(alloc, out),
         }

@@ -15,7 +15,7 @@ abbrev pub mod_path : {A E : Type 0} → PathOf NoArguments → Visits A E
 mod_path p = a_mod_path p ∷ []
 
 abbrev pub list : {A E : Type 0} → MetaList → Visits A E
-list x = a_mod_path x.path ∷ some_arguments x.tokens ∷ []
+list x = a_mod_path x.path ∷ some_arguments x ∷ []
 
 module _ {X : Type 0} where
   abbrev pub name_value : MetaNameValue X → Visits (Attribute X) (Expr X)

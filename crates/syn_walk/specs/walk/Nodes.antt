@@ -2,8 +2,8 @@
 use Rattle.std.specs.Prelude.{ℕ, Bool, List, [], ◌∷◌, ◌++◌, map, Option, Some, None}
 use Rattle.token_core.specs.declared.lifetime.Lifetime.{Lifetime}
 use Rattle.token_core.specs.declared.tree.Ident.{Ident}
-use Rattle.token_core.specs.declared.tree.TokenTree.{TokenTree}
 use Rattle.token_core.specs.Prints.{each}
+use Rattle.syn_attr.specs.declared.attr.MetaList.{MetaList}
 use Rattle.syn_path.specs.declared.mac.Macro.{Macro}
 use Rattle.syn_path.specs.declared.path.NoArguments.{NoArguments}
 use Rattle.syn_path.specs.declared.path.PathOf.{PathOf}
@@ -40,8 +40,8 @@ pub data Visited (A E : Type 0) : Type 0 where
   an_argument : GenericArgument A E → Visited A E
   an_attribute : A → Visited A E
   a_mod_path : PathOf NoArguments → Visited A E
-  -- the tokens in the brackets of a meta
-  some_arguments : List TokenTree → Visited A E
+  -- what is in the brackets of a meta
+  some_arguments : MetaList → Visited A E
   a_value : E → Visited A E
   -- whether it is by reference, and whether it is mutable
   a_binding : Ident → Bool → Bool → Visited A E

@@ -58,7 +58,7 @@ impl<A, E> Walk<A, E> for MetaList {
     #[tactic(auto, using(crate::proofs::Walks::walks))]
     fn add_nodes<'a>(&'a self, out: &mut Items<NodeOf<'a, A, E>>) -> Result<(), AllocError> {
         out.push(NodeOf::ModPath(&self.path))?;
-        out.push(NodeOf::MetaArguments(&self.tokens))
+        out.push(NodeOf::MetaArguments(self))
     }
 }
 

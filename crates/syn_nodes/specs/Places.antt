@@ -1,0 +1,124 @@
+-- The kinds and places of nodes.
+use Rattle.std.specs.Prelude.{ℕ, ◌-◌, Bool, true, false, ◌==◌, if◌then◌else◌, List, [], ◌∷◌, ◌++◌, Option, Some, None}
+use Rattle.std.specs.List.{slice_get}
+use Rattle.token_core.specs.declared.span.Span.{Span}
+use Rattle.token_core.specs.declared.tree.TokenTree.{TokenTree, out-TokenTree}
+use Rattle.token_core.specs.declared.tree.TokenTree.TheOpen as o
+use Rattle.token_core.specs.Entries.{Layer}
+use Rattle.token_core.specs.Prints.{Print, each, ident}
+use Rattle.token_core.specs.Spans.{span}
+use Rattle.syn_path.specs.declared.supplied.Place.{Place}
+use Rattle.syn_path.specs.mac.Macros.{span_of as brackets}
+use Rattle.syn_attr.specs.attr.Attrs.{Attribute}
+use Rattle.syn_attr.specs.attr.Consts.{values_of}
+use Rattle.syn_attr.specs.attr.Printing.{attribute, outer, value}
+use Rattle.syn_attr.specs.declared.attr.MetaList.{MetaList}
+use Rattle.syn_attr.specs.declared.expr.Expr.{Expr}
+use Rattle.syn_ty.specs.path.Shapes.{as_written}
+use Rattle.syn_ty.specs.ty.Printing as types
+use Rattle.syn_ty.specs.ty.Trees.{Path, PathSegment}
+use Rattle.syn_walk.specs.Spanned.{span_of, stands}
+use Rattle.syn_walk.specs.walk.Attrs.{meta}
+use Rattle.syn_walk.specs.walk.Nodes.{Visited, Visits, a_type, a_path, a_qualified_path, a_macro_path, a_lifetime, a_bound, an_argument, an_attribute, a_mod_path, some_arguments, a_value, a_binding}
+use Rattle.syn_walk.specs.walk.Printing.{printed}
+use Rattle.syn_nodes.specs.declared.node.NodeAt.{NodeAt}
+
+-- a node of a kind, by where it stands
+abbrev pub node : ℕ → Span → NodeAt
+node k s = record { kind = k; start = s.lo; end = s.hi }
+
+-- ---- kinds
+
+-- by reference, and mutable
+abbrev pub binding_kind : Bool → Bool → ℕ
+binding_kind false false = 11
+binding_kind true false = 12
+binding_kind false true = 13
+binding_kind true true = 14
+
+abbrev pub kind_of : {A E : Type 0} → Visited A E → ℕ
+kind_of (a_type t) = 0
+kind_of (a_path p) = 1
+kind_of (a_qualified_path p i) = 1
+kind_of (a_macro_path p) = 2
+kind_of (a_lifetime l) = 3
+kind_of (a_bound b) = 4
+kind_of (an_argument g) = 5
+kind_of (an_attribute a) = 6
+kind_of (a_mod_path p) = 7
+kind_of (some_arguments x) = 8
+kind_of (a_value e) = 10
+kind_of (a_binding i r m) = binding_kind r m
+
+-- ---- pieces between commas
+
+abbrev pub comma_layer : Layer → Bool
+comma_layer (o.Punct p) = p.ch == 44
+comma_layer _ = false
+
+abbrev pub is_comma : TokenTree → Bool
+is_comma t = comma_layer (out-TokenTree t)
+
+abbrev pub joined : Option Span → Span → Span
+joined None next = next
+joined (Some s) next = span s.lo next.hi
+
+abbrev pub piece : Option Span → List NodeAt
+piece None = []
+piece (Some s) = node 9 s ∷ []
+
+-- what stands between commas, after what was found of the first piece
+abbrev pub pieces : Option Span → List TokenTree → List NodeAt
+pieces found [] = piece found
+pieces found (t ∷ l) = if is_comma t then piece found ++ pieces None l else pieces (Some (joined found (stands t))) l
+
+-- between the brackets
+abbrev pub inside : MetaList → Span
+inside x = span (brackets x.delimiter).opening.hi (brackets x.delimiter).closing.lo
+
+abbrev pub arguments : MetaList → List NodeAt
+arguments x = node 8 (inside x) ∷ pieces None x.tokens
+
+-- ---- places, over what a supplied subtree prints in a place
+
+module _ {X : Type 0} (prints : Place → X → Print) where
+  -- what a node prints
+  abbrev pub print : Visited (Attribute X) (Expr X) → Print
+  print = printed (attribute prints) (value prints) (outer prints) (values_of prints)
+
+  abbrev pub place : Visited (Attribute X) (Expr X) → NodeAt
+  place v = node (kind_of v) (span_of (print v))
+
+  -- where a segment stands, with its arguments
+  abbrev pub segment_stands : PathSegment (Attribute X) (Expr X) → Span
+  segment_stands s = span_of (ident s.ident ++ types.arguments (outer prints) (values_of prints) as_written s.arguments)
+
+  abbrev pub up_to : Span → Option (PathSegment (Attribute X) (Expr X)) → List NodeAt
+  up_to whole None = []
+  up_to whole (Some s) = node 1 (span whole.lo (segment_stands s).hi) ∷ []
+
+  abbrev pub from : Span → Option (PathSegment (Attribute X) (Expr X)) → List NodeAt
+  from whole None = []
+  from whole (Some s) = node 1 (span (segment_stands s).lo whole.hi) ∷ []
+
+  -- of a path that a type qualifies the segments before the `>`, so many, if there are any
+  abbrev pub before : Path (Attribute X) (Expr X) → ℕ → Span → List NodeAt
+  before p n whole = if n == 0 then [] else up_to whole (slice_get p.segments.0 (n - 1))
+
+  -- and those after it
+  abbrev pub after : Path (Attribute X) (Expr X) → ℕ → Span → List NodeAt
+  after p n whole = from whole (slice_get p.segments.0 n)
+
+  -- a node by itself
+  abbrev pub plain : Visited (Attribute X) (Expr X) → List NodeAt
+  plain (a_qualified_path p n) = before p n (span_of (print (a_qualified_path p n))) ++ after p n (span_of (print (a_qualified_path p n)))
+  plain (some_arguments x) = arguments x
+  plain v = place v ∷ []
+
+  -- an attribute, and what it holds; any other node by itself
+  abbrev pub places : Visited (Attribute X) (Expr X) → List NodeAt
+  places (an_attribute a) = plain (an_attribute a) ++ each plain (meta a.meta)
+  places v = plain v
+
+  abbrev pub all : Visits (Attribute X) (Expr X) → List NodeAt
+  all l = each places l

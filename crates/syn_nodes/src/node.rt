@@ -1,0 +1,280 @@
+//! Nodes by their kinds and places.
+
+ghost use Rattle.std.specs.Prelude.{◌≡◌, ◌++◌, [], OnOk, IfOk};
+ghost use Rattle.token_core.specs.Prints.{each};
+ghost use Rattle.token_core.specs.Spans.{span};
+ghost use Rattle.syn_nodes.specs.Places as spec;
+ghost use Rattle.syn_attr.specs.attr.Printing.{outer};
+ghost use Rattle.syn_attr.specs.attr.Consts.{values_of};
+ghost use Rattle.syn_walk.specs.walk.Nodes.{saw, seen};
+
+use std::alloc::{AllocError, Global};
+use syn_attr::attr::{Attribute, MetaList};
+use syn_attr::expr::Expr;
+use syn_path::path::{PathOf, PathSegmentOf};
+use syn_path::supplied::Subtree;
+use syn_ty::path::PathArgumentsOf;
+use syn_walk::spanned::{span_of, span_of_tokens, span_of_tree};
+use syn_walk::walk::{NodeOf, Walk, nodes};
+use token_core::{Items, Span, ToTokens, TokenStream, TokenTree};
+
+pub const TYPE: u32 = 0;
+/// A path of a type, a bound or a pattern. Of one that a type qualifies the segments before the `>`, if there are any, and those after it:
+/// two nodes.
+pub const PATH: u32 = 1;
+/// The path of a macro call.
+pub const MACRO_PATH: u32 = 2;
+pub const LIFETIME: u32 = 3;
+pub const BOUND: u32 = 4;
+/// An argument between angle marks.
+pub const ARGUMENT: u32 = 5;
+pub const ATTRIBUTE: u32 = 6;
+/// A path of mod style: the one that an attribute or a meta begins with, or one by itself.
+pub const MOD_PATH: u32 = 7;
+/// What stands in the brackets of a meta: from the end of the opening one to the closing one.
+pub const META_ARGUMENTS: u32 = 8;
+/// What stands there between commas; nothing between two of them is no node.
+pub const META_ARGUMENT: u32 = 9;
+/// What stands after the `=` of a meta.
+pub const VALUE: u32 = 10;
+/// The name that a pattern binds.
+pub const BINDING: u32 = 11;
+/// One that is bound by reference, after `ref`.
+pub const REF_BINDING: u32 = 12;
+/// One that is mutable, after `mut`.
+pub const MUT_BINDING: u32 = 13;
+/// Both.
+pub const REF_MUT_BINDING: u32 = 14;
+
+/// A node of a tree, by its kind and by where it stands in the text: from its first token that the text gave to the last, in bytes.
+#[repr(C)]
+#[derive(Clone, Copy, PartialEq, Eq)]
+pub struct NodeAt {
+    pub kind: u32,
+    pub start: usize,
+    pub end: usize,
+}
+
+/// A node over a supplied subtree.
+pub type Node<'a, X> = NodeOf<'a, Attribute<X>, Expr<X>>;
+
+/// The nodes of a tree (`syn_walk::walk::nodes`), by their kinds and places, each attribute before its path and its arguments or its value.
+pub fn places_of<X: Subtree, T: Walk<Attribute<X>, Expr<X>>>(
+    alloc: Global,
+    tree: &T,
+) -> Result<Items<NodeAt>, AllocError>
+    ensures { IfOk result (λ it. it ≡ spec.all X.prints (T.visits tree.now)) }
+{
+    let found = nodes(alloc, tree)?;
+    places::<X>(alloc, &found)
+}
+
+/// These nodes, by their kinds and places.
+pub fn places<X: Subtree>(
+    alloc: Global,
+    found: &Items<Node<'_, X>>,
+) -> Result<Items<NodeAt>, AllocError>
+    ensures { IfOk result (λ it. it ≡ spec.all X.prints (seen found.now)) }
+{
+    let mut out = Items::new(alloc);
+    for node in found.as_slice() {
+        add_node::<X>(alloc, node, &mut out)?;
+    }
+    Ok(out)
+}
+
+fn add_node<X: Subtree>(
+    alloc: Global,
+    node: &Node<'_, X>,
+    out: &mut Items<NodeAt>,
+) -> Result<(), AllocError>
+    ensures { OnOk result (out.new ≡ out.old ++ spec.places X.prints (saw node.now)) }
+{
+    match node {
+        NodeOf::Attribute(attribute) => {
+            add_plain::<X>(alloc, node, out)?;
+            add_each_plain::<X>(alloc, &nodes(alloc, &attribute.meta)?, out)
+        }
+        _ => add_plain::<X>(alloc, node, out),
+    }
+}
+
+/// Appends each of these nodes, of attributes nothing that they hold.
+fn add_each_plain<X: Subtree>(
+    alloc: Global,
+    found: &Items<Node<'_, X>>,
+    out: &mut Items<NodeAt>,
+) -> Result<(), AllocError>
+    ensures { OnOk result (out.new ≡ out.old ++ each (spec.plain X.prints) (seen found.now)) }
+{
+    for node in found.as_slice() {
+        add_plain::<X>(alloc, node, out)?;
+    }
+    Ok(())
+}
+
+fn add_plain<X: Subtree>(
+    alloc: Global,
+    node: &Node<'_, X>,
+    out: &mut Items<NodeAt>,
+) -> Result<(), AllocError>
+    ensures { OnOk result (out.new ≡ out.old ++ spec.plain X.prints (saw node.now)) }
+{
+    match node {
+        NodeOf::MetaArguments(list) => add_arguments(list, out),
+        NodeOf::QualifiedPath(path, position) => {
+            let whole = span_of(alloc, node)?;
+            add_before::<X>(alloc, path, *position, whole, out)?;
+            add_after::<X>(alloc, path, *position, whole, out)
+        }
+        _ => out.push(node_at(kind_of::<X>(node), span_of(alloc, node)?)),
+    }
+}
+
+/// The number of a node's kind.
+fn kind_of<X>(node: &Node<'_, X>) -> u32
+    ensures { result ≡ spec.kind_of (saw node.now) }
+{
+    match node {
+        NodeOf::Type(_) => TYPE,
+        NodeOf::Path(_) | NodeOf::QualifiedPath(_, _) => PATH,
+        NodeOf::MacroPath(_) => MACRO_PATH,
+        NodeOf::Lifetime(_) => LIFETIME,
+        NodeOf::Bound(_) => BOUND,
+        NodeOf::Argument(_) => ARGUMENT,
+        NodeOf::Attribute(_) => ATTRIBUTE,
+        NodeOf::ModPath(_) => MOD_PATH,
+        NodeOf::MetaArguments(_) => META_ARGUMENTS,
+        NodeOf::Value(_) => VALUE,
+        NodeOf::Binding(_, by_ref, mutable) => binding_kind(*by_ref, *mutable),
+    }
+}
+
+fn binding_kind(by_ref: bool, mutable: bool) -> u32
+    ensures { result ≡ spec.binding_kind by_ref mutable }
+{
+    match (by_ref, mutable) {
+        (false, false) => BINDING,
+        (true, false) => REF_BINDING,
+        (false, true) => MUT_BINDING,
+        (true, true) => REF_MUT_BINDING,
+    }
+}
+
+fn node_at(kind: u32, span: Span) -> NodeAt
+    ensures { result ≡ spec.node kind span }
+{
+    NodeAt {
+        kind,
+        start: span.lo,
+        end: span.hi,
+    }
+}
+
+/// Where a segment stands, with its arguments.
+fn span_of_segment<X: Subtree>(
+    alloc: Global,
+    segment: &PathSegmentOf<PathArgumentsOf<Attribute<X>, Expr<X>>>,
+) -> Result<Span, AllocError>
+    ensures { IfOk result (λ s. s ≡ spec.segment_stands X.prints segment.now) }
+{
+    let mut tokens = TokenStream::new(alloc);
+    segment.ident.to_tokens(alloc, &mut tokens)?;
+    segment.arguments.to_tokens(alloc, &mut tokens)?;
+    Ok(span_of_tokens(&tokens))
+}
+
+/// Appends the segments that stand before the `>` of a path that a type qualifies, if there are any.
+fn add_before<X: Subtree>(
+    alloc: Global,
+    path: &PathOf<PathArgumentsOf<Attribute<X>, Expr<X>>>,
+    position: usize,
+    whole: Span,
+    out: &mut Items<NodeAt>,
+) -> Result<(), AllocError>
+    ensures { OnOk result (out.new ≡ out.old ++ spec.before X.prints path.now position whole) }
+{
+    if position == 0 {
+        return Ok(());
+    }
+    match path.segments.value(position - 1) {
+        None => Ok(()),
+        Some(segment) => {
+            let last = span_of_segment::<X>(alloc, segment)?;
+            out.push(node_at(PATH, Span::new(whole.lo, last.hi)))
+        }
+    }
+}
+
+/// Appends the segments that stand after it.
+fn add_after<X: Subtree>(
+    alloc: Global,
+    path: &PathOf<PathArgumentsOf<Attribute<X>, Expr<X>>>,
+    position: usize,
+    whole: Span,
+    out: &mut Items<NodeAt>,
+) -> Result<(), AllocError>
+    ensures { OnOk result (out.new ≡ out.old ++ spec.after X.prints path.now position whole) }
+{
+    match path.segments.value(position) {
+        None => Ok(()),
+        Some(segment) => {
+            let first = span_of_segment::<X>(alloc, segment)?;
+            out.push(node_at(PATH, Span::new(first.lo, whole.hi)))
+        }
+    }
+}
+
+/// Appends what stands in the brackets of a meta, and each piece of it.
+fn add_arguments(list: &MetaList, out: &mut Items<NodeAt>) -> Result<(), AllocError>
+    ensures { OnOk result (out.new ≡ out.old ++ spec.arguments list.now) }
+{
+    let brackets = list.delimiter.span();
+    let inside = Span::new(brackets.open_().hi, brackets.close().lo);
+    out.push(node_at(META_ARGUMENTS, inside))?;
+    add_pieces(&list.tokens, out)
+}
+
+/// Appends what stands between the commas of a list.
+fn add_pieces(tokens: &TokenStream, out: &mut Items<NodeAt>) -> Result<(), AllocError>
+    ensures { OnOk result (out.new ≡ out.old ++ spec.pieces None tokens.now) }
+{
+    let mut piece = None;
+    for tree in tokens.as_slice() {
+        if is_comma(tree) {
+            add_piece(piece, out)?;
+            piece = None;
+        } else {
+            piece = Some(joined(piece, span_of_tree(tree)));
+        }
+    }
+    add_piece(piece, out)
+}
+
+fn add_piece(piece: Option<Span>, out: &mut Items<NodeAt>) -> Result<(), AllocError>
+    ensures { OnOk result (out.new ≡ out.old ++ spec.piece piece) }
+{
+    match piece {
+        None => Ok(()),
+        Some(span) => out.push(node_at(META_ARGUMENT, span)),
+    }
+}
+
+/// From the beginning of a piece to the end of the next token.
+fn joined(piece: Option<Span>, next: Span) -> Span
+    ensures { result ≡ spec.joined piece next }
+{
+    match piece {
+        None => next,
+        Some(span) => Span::new(span.lo, next.hi),
+    }
+}
+
+fn is_comma(tree: &TokenTree) -> bool
+    ensures { result ≡ spec.is_comma tree.now }
+{
+    match tree {
+        TokenTree::Punct(punct) => punct.ch == ',',
+        _ => false,
+    }
+}
