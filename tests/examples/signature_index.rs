@@ -36,7 +36,8 @@ fn index<T: Walk<Attribute, Expr>>(alloc: Global, tree: &T) -> Result<Vec<Named>
     let mut index = Vec::new(alloc);
     for node in nodes(alloc, tree)?.iter() {
         match node {
-            NodeOf::Path(path) | NodeOf::QualifiedPath(path, _) => add_name(alloc, path, &mut index)?,
+            NodeOf::Path(path) => add_name(alloc, path, &mut index)?,
+            NodeOf::ItemPath(path, _) => add_name(alloc, path, &mut index)?,
             NodeOf::MacroPath(path) => add_name(alloc, path, &mut index)?,
             _ => {}
         }

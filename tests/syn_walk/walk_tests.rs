@@ -23,8 +23,8 @@ fn told(alloc: Global, text: &str, nodes: &Items<Node<'_>>) -> Result<String, Al
         let kind = match node {
             NodeOf::Type(_) => "T",
             NodeOf::Path(_) => "P",
-            NodeOf::QualifiedPath(_, 0) => "Q",
-            NodeOf::QualifiedPath(_, _) => "QT",
+            NodeOf::TraitPath(_, _) => "PT",
+            NodeOf::ItemPath(_, _) => "PI",
             NodeOf::MacroPath(_) => "M",
             NodeOf::Lifetime(_) => "L",
             NodeOf::Bound(_) => "B",
@@ -89,7 +89,7 @@ fn types(rt: HostRuntime) {
         // the type that qualifies a path stands before it
         (
             "<T as a::B<U>>::C<'d>",
-            "T <T as a::B<U>>::C<'d>; T T; P T; QT a::B<U>>::C<'d>; G U; T U; P U; G 'd; L 'd; ",
+            "T <T as a::B<U>>::C<'d>; T T; P T; PT a::B<U>>::C<'d>; G U; T U; P U; PI a::B<U>>::C<'d>; G 'd; L 'd; ",
         ),
         (
             "for<'a> fn(x: &'a A, B, ...) -> C",
@@ -107,7 +107,7 @@ fn types(rt: HostRuntime) {
             "A<{ n }, N<'a> = 1, I<T> = U, J<'b>: B + ?C>",
             "T A<{ n }, N<'a> = 1, I<T> = U, J<'b>: B + ?C>; P A<{ n }, N<'a> = 1, I<T> = U, J<'b>: B + ?C>; G { n }; G N<'a> = 1; G 'a; L 'a; G I<T> = U; G T; T T; P T; T U; P U; G J<'b>: B + ?C; G 'b; L 'b; B B; P B; B ?C; P C; ",
         ),
-        ("<T>::C", "T <T>::C; T T; P T; Q C; "),
+        ("<T>::C", "T <T>::C; T T; P T; PI C; "),
         (
             "fn(#[a] x: A, #[b] ...)",
             "T fn(#[a] x: A, #[b] ...); A #[a]; T A; P A; A #[b]; ",
@@ -196,7 +196,7 @@ fn patterns(rt: HostRuntime) {
         ("&mut [a, 1, b @ ..]", "N a; N b; "),
         ("A(a) | B(a)", "P A; N a; P B; N a; "),
         ("a::B { x, y: ref z, #[c] .. }", "P a::B; N x; N ref z; A #[c]; "),
-        ("<T as A>::B(x)", "T T; P T; QT A>::B; N x; "),
+        ("<T as A>::B(x)", "T T; P T; PT A>::B; PI A>::B; N x; "),
         ("A::<'b>::C..=D::E", "P A::<'b>::C; G 'b; L 'b; P D::E; "),
         ("m::n!(a)", "M m::n; "),
     ] {

@@ -30,7 +30,7 @@ fn nodes_stand_in_order() {
         (
             "Type",
             "<T as a::B<U>>::C<'d>",
-            "Type <T as a::B<U>>::C<'d>; Type T; Path T; Path a::B<U>; Path C<'d>; Argument U; Type U; Path U; Argument 'd; Lifetime 'd; ",
+            "Type <T as a::B<U>>::C<'d>; Type T; Path T; Path a::B<U>; Argument U; Type U; Path U; Path C<'d>; Argument 'd; Lifetime 'd; ",
         ),
         ("Type", "<T>::C", "Type <T>::C; Type T; Path T; Path C; "),
         ("Type", "dyn A + 'b", "Type dyn A + 'b; Bound A; Path A; Bound 'b; Lifetime 'b; "),

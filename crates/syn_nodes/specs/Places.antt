@@ -19,7 +19,7 @@ use Rattle.syn_ty.specs.ty.Printing as types
 use Rattle.syn_ty.specs.ty.Trees.{Path, PathSegment}
 use Rattle.syn_walk.specs.Spanned.{span_of, stands}
 use Rattle.syn_walk.specs.walk.Attrs.{meta}
-use Rattle.syn_walk.specs.walk.Nodes.{Visited, Visits, a_type, a_path, a_qualified_path, a_macro_path, a_lifetime, a_bound, an_argument, an_attribute, a_mod_path, some_arguments, a_value, a_binding}
+use Rattle.syn_walk.specs.walk.Nodes.{Visited, Visits, a_type, a_path, a_trait_path, an_item_path, a_macro_path, a_lifetime, a_bound, an_argument, an_attribute, a_mod_path, some_arguments, a_value, a_binding}
 use Rattle.syn_walk.specs.walk.Printing.{printed}
 use Rattle.syn_nodes.specs.declared.node.NodeAt.{NodeAt}
 
@@ -39,7 +39,8 @@ binding_kind true true = 14
 abbrev pub kind_of : {A E : Type 0} → Visited A E → ℕ
 kind_of (a_type t) = 0
 kind_of (a_path p) = 1
-kind_of (a_qualified_path p i) = 1
+kind_of (a_trait_path p i) = 1
+kind_of (an_item_path p i) = 1
 kind_of (a_macro_path p) = 2
 kind_of (a_lifetime l) = 3
 kind_of (a_bound b) = 4
@@ -101,17 +102,18 @@ module _ {X : Type 0} (prints : Place → X → Print) where
   from whole None = []
   from whole (Some s) = node 1 (span (segment_stands s).lo whole.hi) ∷ []
 
-  -- of a path that a type qualifies the segments before the `>`, so many, if there are any
+  -- the first segments of a path, so many
   abbrev pub before : Path (Attribute X) (Expr X) → ℕ → Span → List NodeAt
-  before p n whole = if n == 0 then [] else up_to whole (slice_get p.segments.0 (n - 1))
+  before p n whole = up_to whole (slice_get p.segments.0 (n - 1))
 
-  -- and those after it
+  -- and those behind them
   abbrev pub after : Path (Attribute X) (Expr X) → ℕ → Span → List NodeAt
   after p n whole = from whole (slice_get p.segments.0 n)
 
   -- a node by itself
   abbrev pub plain : Visited (Attribute X) (Expr X) → List NodeAt
-  plain (a_qualified_path p n) = before p n (span_of (print (a_qualified_path p n))) ++ after p n (span_of (print (a_qualified_path p n)))
+  plain (a_trait_path p n) = before p n (span_of (print (a_trait_path p n)))
+  plain (an_item_path p n) = after p n (span_of (print (an_item_path p n)))
   plain (some_arguments x) = arguments x
   plain v = place v ∷ []
 

@@ -19,8 +19,8 @@ use syn_walk::walk::{NodeOf, Walk, nodes};
 use token_core::{Items, Span, ToTokens, TokenStream, TokenTree};
 
 pub const TYPE: u32 = 0;
-/// A path of a type, a bound or a pattern. Of one that a type qualifies the segments before the `>`, if there are any, and those after it:
-/// two nodes.
+/// A path of a type, a bound or a pattern. Of one that a type qualifies the segments before the `>`, if there are any, and those after it are
+/// each one.
 pub const PATH: u32 = 1;
 /// The path of a macro call.
 pub const MACRO_PATH: u32 = 2;
@@ -122,10 +122,11 @@ fn add_plain<X: Subtree>(
 {
     match node {
         NodeOf::MetaArguments(list) => add_arguments(list, out),
-        NodeOf::QualifiedPath(path, position) => {
-            let whole = span_of(alloc, node)?;
-            add_before::<X>(alloc, path, *position, whole, out)?;
-            add_after::<X>(alloc, path, *position, whole, out)
+        NodeOf::TraitPath(path, position) => {
+            add_before::<X>(alloc, path, *position, span_of(alloc, node)?, out)
+        }
+        NodeOf::ItemPath(path, position) => {
+            add_after::<X>(alloc, path, *position, span_of(alloc, node)?, out)
         }
         _ => out.push(node_at(kind_of::<X>(node), span_of(alloc, node)?)),
     }
@@ -137,7 +138,7 @@ fn kind_of<X>(node: &Node<'_, X>) -> u32
 {
     match node {
         NodeOf::Type(_) => TYPE,
-        NodeOf::Path(_) | NodeOf::QualifiedPath(_, _) => PATH,
+        NodeOf::Path(_) | NodeOf::TraitPath(_, _) | NodeOf::ItemPath(_, _) => PATH,
         NodeOf::MacroPath(_) => MACRO_PATH,
         NodeOf::Lifetime(_) => LIFETIME,
         NodeOf::Bound(_) => BOUND,
@@ -184,7 +185,7 @@ fn span_of_segment<X: Subtree>(
     Ok(span_of_tokens(&tokens))
 }
 
-/// Appends the segments that stand before the `>` of a path that a type qualifies, if there are any.
+/// Appends the first segments of a path, so many.
 fn add_before<X: Subtree>(
     alloc: Global,
     path: &PathOf<PathArgumentsOf<Attribute<X>, Expr<X>>>,
@@ -194,10 +195,7 @@ fn add_before<X: Subtree>(
 ) -> Result<(), AllocError>
     ensures { OnOk result (out.new ≡ out.old ++ spec.before X.prints path.now position whole) }
 {
-    if position == 0 {
-        return Ok(());
-    }
-    match path.segments.value(position - 1) {
+    match path.segments.value(position.saturating_sub(1)) {
         None => Ok(()),
         Some(segment) => {
             let last = span_of_segment::<X>(alloc, segment)?;
@@ -206,7 +204,7 @@ fn add_before<X: Subtree>(
     }
 }
 
-/// Appends the segments that stand after it.
+/// Appends the segments behind so many.
 fn add_after<X: Subtree>(
     alloc: Global,
     path: &PathOf<PathArgumentsOf<Attribute<X>, Expr<X>>>,

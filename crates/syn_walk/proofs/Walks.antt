@@ -1,5 +1,5 @@
 -- What stands in each kind of tree, by what it holds.
-use Rattle.std.proofs.Common.{◌≡◌, List, [], ◌∷◌, ◌++◌, map, Option, Some, None, refl, sym, ap, ◌∙◌, append_assoc, append-nil}
+use Rattle.std.proofs.Common.{◌≡◌, ℕ, List, [], ◌∷◌, ◌++◌, map, Option, Some, None, refl, sym, ap, ◌∙◌, append_assoc, append-nil}
 use Rattle.std.proofs.lemmas.List.{map-append}
 use Rattle.token_core.specs.declared.lifetime.Lifetime.{Lifetime}
 use Rattle.token_core.specs.declared.tree.TokenTree.{TokenTree}
@@ -45,7 +45,7 @@ use Rattle.syn_ty.specs.generics.Params.{Colon, Eq, trait_bound_of, type_param_o
 use Rattle.syn_ty.specs.path.Paths.{assoc_type_of, assoc_const_of, constraint_of, parens_of}
 use Rattle.syn_ty.specs.ty.Types.{Comma, Plus, fn_ptr_with}
 use Rattle.syn_ty.specs.ty.Trees.{Family, Layer, TypeParam, ConstParam, BoundLifetimes, TypeParamBound, TraitBound, PathArguments, Path, PathSegment, GenericParam, GenericArgument, AngleBracketed, Parenthesized, AssocType, AssocConst, Constraint, TypeTree, QSelf, TypeArray, TypeFnPtr, TypeGroup, TypeImplTrait, TypeParen, TypePath, TypePtr, TypeReference, TypeSlice, TypeTraitObject, TypeTuple, NamedArg, ReturnType}
-use Rattle.syn_walk.specs.walk.Nodes.{Visited, Visits, With, a_type, a_path, a_qualified_path, macro_path, attributes, lifetime, lifetime_param, capture, variadic, inputs_by, output_by, parenthesized_by, default_by, reference_by, binder_by, generics_by, typed, bounded, argued, within, plain, plain_segment, path_by, named_by, param_step, bound_step, argument_step, arguments_step, inside_step, trait_bound_step, type_param_step, assoc_type_step, constraint_step, fn_ptr_step, path_type_step, param, inside_bound, bound, inside_argument, argument, arguments, inside, trait_bound, type_param, assoc_type, constraint, fn_ptr, path_type, ty, path, named, reference, inputs, output, parenthesized, generics, binder}
+use Rattle.syn_walk.specs.walk.Nodes.{Visited, Visits, With, a_type, a_path, macro_path, attributes, lifetime, lifetime_param, capture, variadic, inputs_by, output_by, parenthesized_by, default_by, reference_by, binder_by, generics_by, typed, bounded, argued, within, plain, plain_segment, path_by, of_trait, of_item, fewer, segments_by, named_by, param_step, bound_step, argument_step, arguments_step, inside_step, trait_bound_step, type_param_step, assoc_type_step, constraint_step, fn_ptr_step, path_type_step, param, inside_bound, bound, inside_argument, argument, arguments, inside, trait_bound, type_param, assoc_type, constraint, fn_ptr, path_type, ty, path, named, reference, inputs, output, parenthesized, generics, binder}
 
 -- what is in the elements of a list that was mapped
 pub each_map : {T U B : Type 0} (f : U → List B) (g : T → U) (l : List T) → each f (map g l) ≡ each (λ x. f (g x)) l
@@ -170,13 +170,22 @@ module _ {A E : Type 0} where
   plain_same [] = refl
   plain_same (s ∷ l) = ap (λ r. s ∷ r) (plain_same l)
 
-  nodes_same : (f : Path A E → Visited A E) (p : Path A E) → f (plain (path_on p)) ∷ each (λ s. within s.arguments) (map segment_on p.segments.0) ≡ f p ∷ each (λ s. arguments s.arguments) p.segments.0
-  nodes_same f p =
-      ap (λ l. f (record { leading_colon = p.leading_colon; segments = (l, p.segments.1) }) ∷ each (λ s. within s.arguments) (map segment_on p.segments.0)) (plain_same p.segments.0)
-      ∙ ap (λ r. f p ∷ r) (each_map (λ s. within s.arguments) segment_on p.segments.0)
+  abbrev path_with : Path A E → List (PathSegment A E) → Path A E
+  path_with p l = record { leading_colon = p.leading_colon; segments = (l, p.segments.1) }
 
   path_same : (p : Path A E) → path_by (path_on p) ≡ path p
-  path_same p = nodes_same a_path p
+  path_same p =
+      ap (λ l. a_path (path_with p l) ∷ each (λ s. within s.arguments) (map segment_on p.segments.0)) (plain_same p.segments.0)
+      ∙ ap (λ r. a_path p ∷ r) (each_map (λ s. within s.arguments) segment_on p.segments.0)
+
+  segments_same : (p : Path A E) (n : ℕ) (left : Option ℕ) (l : List (PathSegment A E)) → segments_by within p n left (map segment_on l) ≡ segments_by arguments p n left l
+  segments_same p n left [] = refl
+  segments_same p n left (s ∷ l) = ap (λ r. of_item p n left ++ (arguments s.arguments ++ r)) (segments_same p n (fewer left) l)
+
+  named_same : (n : ℕ) (p : Path A E) → of_trait (plain (path_on p)) n ++ segments_by within (plain (path_on p)) n (Some n) (map segment_on p.segments.0) ≡ of_trait p n ++ segments_by arguments p n (Some n) p.segments.0
+  named_same n p =
+      ap (λ l. of_trait (path_with p l) n ++ segments_by within (path_with p l) n (Some n) (map segment_on p.segments.0)) (plain_same p.segments.0)
+      ∙ ap (λ r. of_trait p n ++ r) (segments_same p n (Some n) p.segments.0)
 
   abbrev arg_on : NamedArg A E → NamedArgOf (TypeTree A E × Visits A E) A
   arg_on x = record { attrs = x.attrs; name = x.name; ty = (x.ty, inside x.ty) }
@@ -192,7 +201,7 @@ module _ {A E : Type 0} where
 
   path_type_parts : (a : List A) (q : Option (QSelf A E)) (z : Path A E) → path_type (roll-TypePathOf A E (record { attrs = a; qself = q; path = z })) ≡ attributes a ++ named q z
   path_type_parts a None z = by_path_type (record { attrs = a; qself = None; path = z }) ∙ ap (λ r. attributes a ++ r) (path_same z)
-  path_type_parts a (Some q) z = by_path_type (record { attrs = a; qself = Some q; path = z }) ∙ ap (λ r. attributes a ++ (ty q.ty ++ r)) (nodes_same (λ p. a_qualified_path p q.position) z)
+  path_type_parts a (Some q) z = by_path_type (record { attrs = a; qself = Some q; path = z }) ∙ ap (λ r. attributes a ++ (ty q.ty ++ r)) (named_same q.position z)
 
   pub in_path_type : (x : TypePath A E) → path_type x ≡ attributes (out-TypePathOf A E x).attrs ++ named (out-TypePathOf A E x).qself (out-TypePathOf A E x).path
   in_path_type x = let f = out-TypePathOf A E x in ap path_type (sym (roll-out-TypePathOf A E x)) ∙ path_type_parts f.attrs f.qself f.path

@@ -31,8 +31,10 @@ pub enum NodeOf<'a, A, E> {
     Type(&'a TypeOf<A, E>),
     /// A path of a type, a bound or a pattern.
     Path(&'a PathOf<PathArgumentsOf<A, E>>),
-    /// One that a type qualifies, and how many of its segments stand before the `>`.
-    QualifiedPath(&'a PathOf<PathArgumentsOf<A, E>>, usize),
+    /// Of a path that a type qualifies the segments before the `>`, which name the trait: so many.
+    TraitPath(&'a PathOf<PathArgumentsOf<A, E>>, usize),
+    /// Of such a path the segments after the `>`, before which so many stand.
+    ItemPath(&'a PathOf<PathArgumentsOf<A, E>>, usize),
     /// The path of a macro call.
     MacroPath(&'a ModPath),
     Lifetime(&'a Lifetime),
@@ -50,7 +52,7 @@ pub enum NodeOf<'a, A, E> {
     Binding(&'a Ident, bool, bool),
 }
 
-/// Appends the print of what the node lends, of a binding its name.
+/// Appends the print of what the node lends: of a binding its name, of each part of a path that a type qualifies the path.
 impl<A: Attributes + ToTokens, E: Value + ToTokens> ToTokens for NodeOf<'_, A, E> {
     ghost print = { λ node. printed A.print E.print A.shown E.values (saw node) };
 
@@ -58,7 +60,8 @@ impl<A: Attributes + ToTokens, E: Value + ToTokens> ToTokens for NodeOf<'_, A, E
         match self {
             NodeOf::Type(ty) => print_type(alloc, ty, out),
             NodeOf::Path(path) => print_path(alloc, path, PathStyle::AsWritten, out),
-            NodeOf::QualifiedPath(path, _) => print_path(alloc, path, PathStyle::AsWritten, out),
+            NodeOf::TraitPath(path, _) => print_path(alloc, path, PathStyle::AsWritten, out),
+            NodeOf::ItemPath(path, _) => print_path(alloc, path, PathStyle::AsWritten, out),
             NodeOf::MacroPath(path) => print_mod_path(alloc, path, out),
             NodeOf::Lifetime(lifetime) => lifetime.append_tokens(alloc, out),
             NodeOf::Bound(bound) => bound.append_tokens(alloc, out),
@@ -83,7 +86,8 @@ pub trait Walk<A, E> {
 }
 
 /// The nodes of a tree in order of writing, each before what it holds: each type, itself too; each bound, and each argument between
-/// angle marks; each path of a type, a bound or a pattern, after the type that qualifies it; the path of each macro call in the place of
+/// angle marks; each path of a type, a bound or a pattern, of one that a
+/// type qualifies the segments before the `>` and those after it, behind that type; the path of each macro call in the place of
 /// a type or a pattern; each lifetime; each attribute; each name that a pattern binds. Of a meta its path, its arguments, its value.
 ///
 /// What expressions, macro calls, and tokens held as written hold is not looked into, nor what attributes hold: that has the walk of their

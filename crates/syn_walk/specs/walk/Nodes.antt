@@ -1,5 +1,5 @@
 -- The nodes of trees, in order of writing: what stands in a tree is said layer by layer, where each tree within stands beside what is in it.
-use Rattle.std.specs.Prelude.{ℕ, Bool, List, [], ◌∷◌, ◌++◌, map, Option, Some, None}
+use Rattle.std.specs.Prelude.{ℕ, ◌-◌, ◌==◌, Bool, if◌then◌else◌, List, [], ◌∷◌, ◌++◌, map, Option, Some, None}
 use Rattle.token_core.specs.declared.lifetime.Lifetime.{Lifetime}
 use Rattle.token_core.specs.declared.tree.Ident.{Ident}
 use Rattle.token_core.specs.Prints.{each}
@@ -32,8 +32,10 @@ use Rattle.syn_walk.specs.declared.walk.NodeOf.TheVariants as n
 pub data Visited (A E : Type 0) : Type 0 where
   a_type : TypeTree A E → Visited A E
   a_path : Path A E → Visited A E
-  -- with how many of its segments name the trait
-  a_qualified_path : Path A E → ℕ → Visited A E
+  -- of a path that a type qualifies the segments that name the trait, so many
+  a_trait_path : Path A E → ℕ → Visited A E
+  -- and those behind them
+  an_item_path : Path A E → ℕ → Visited A E
   a_macro_path : PathOf NoArguments → Visited A E
   a_lifetime : Lifetime → Visited A E
   a_bound : TypeParamBound A E → Visited A E
@@ -53,7 +55,8 @@ Visits A E = List (Visited A E)
 abbrev pub saw : {A E : Type 0} → NodeOf A E → Visited A E
 saw (n.«Type» t) = a_type t.now
 saw (n.Path p) = a_path p.now
-saw (n.QualifiedPath p i) = a_qualified_path p.now i
+saw (n.TraitPath p i) = a_trait_path p.now i
+saw (n.ItemPath p i) = an_item_path p.now i
 saw (n.MacroPath p) = a_macro_path p.now
 saw (n.Lifetime l) = a_lifetime l.now
 saw (n.Bound b) = a_bound b.now
@@ -135,6 +138,25 @@ module _ {A E : Type 0} where
   generics_by argument None = []
   generics_by argument (Some x) = each argument x.args.0
 
+  -- of a path that a type qualifies the segments before the `>`, if there are any
+  abbrev pub of_trait : Path A E → ℕ → Visits A E
+  of_trait p n = if n == 0 then [] else a_trait_path p n ∷ []
+
+  -- the segments after the `>`, where no more are left before it; where they were seen, nothing
+  abbrev pub of_item : Path A E → ℕ → Option ℕ → Visits A E
+  of_item p n None = []
+  of_item p n (Some left) = if left == 0 then an_item_path p n ∷ [] else []
+
+  -- how many are left before the `>` behind a segment
+  abbrev pub fewer : Option ℕ → Option ℕ
+  fewer None = None
+  fewer (Some left) = if left == 0 then None else Some (left - 1)
+
+  -- what is in the arguments of each segment, and the segments after the `>` before what is in theirs
+  abbrev pub segments_by : {G : Type 0} → (G → Visits A E) → Path A E → ℕ → Option ℕ → List (PathSegmentOf G) → Visits A E
+  segments_by arguments p n left [] = []
+  segments_by arguments p n left (s ∷ l) = of_item p n left ++ (arguments s.arguments ++ segments_by arguments p n (fewer left) l)
+
   -- what is in a tree that stands beside it
   abbrev pub within : {T : Type 0} → T × Visits A E → Visits A E
   within x = x.1
@@ -163,7 +185,7 @@ module _ {A E : Type 0} where
   -- the type that qualifies a path stands before it
   abbrev pub named_by : Option (QSelfOf (TypeTree A E × Visits A E)) → PathOf (PathArguments A E × Visits A E) → Visits A E
   named_by None p = path_by p
-  named_by (Some q) p = typed q.ty ++ (a_qualified_path (plain p) q.position ∷ each (λ s. within s.arguments) p.segments.0)
+  named_by (Some q) p = typed q.ty ++ (of_trait (plain p) q.position ++ segments_by within (plain p) q.position (Some q.position) p.segments.0)
 
   abbrev pub param_step : With o.GenericParamOf-F A E → Visits A E
   param_step (o.GenericParamOf::Lifetime x) = lifetime_param x
@@ -279,7 +301,7 @@ module _ {A E : Type 0} where
   -- a path that a type may qualify
   abbrev pub named : Option (QSelfOf (TypeTree A E)) → Path A E → Visits A E
   named None p = path p
-  named (Some q) p = ty q.ty ++ (a_qualified_path p q.position ∷ each (λ s. arguments s.arguments) p.segments.0)
+  named (Some q) p = ty q.ty ++ (of_trait p q.position ++ segments_by arguments p q.position (Some q.position) p.segments.0)
 
   abbrev pub reference : TypeReferenceOf (TypeTree A E) A → Visits A E
   reference = reference_by ty

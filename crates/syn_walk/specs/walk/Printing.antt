@@ -8,13 +8,14 @@ use Rattle.syn_path.specs.Values.{Values}
 use Rattle.syn_ty.specs.path.Printing.{path}
 use Rattle.syn_ty.specs.path.Shapes.{as_written}
 use Rattle.syn_ty.specs.ty.Printing as printing
-use Rattle.syn_walk.specs.walk.Nodes.{Visited, a_type, a_path, a_qualified_path, a_macro_path, a_lifetime, a_bound, an_argument, an_attribute, a_mod_path, some_arguments, a_value, a_binding}
+use Rattle.syn_walk.specs.walk.Nodes.{Visited, a_type, a_path, a_trait_path, an_item_path, a_macro_path, a_lifetime, a_bound, an_argument, an_attribute, a_mod_path, some_arguments, a_value, a_binding}
 
 -- by what an attribute and a value print by themselves, and what attributes and expressions print in a type
 abbrev pub printed : {A E : Type 0} → (A → Print) → (E → Print) → (List A → Print) → Values E → Visited A E → Print
 printed attribute value attrs values (a_type t) = printing.ty attrs values t
 printed attribute value attrs values (a_path p) = path attrs values as_written p
-printed attribute value attrs values (a_qualified_path p i) = path attrs values as_written p
+printed attribute value attrs values (a_trait_path p i) = path attrs values as_written p
+printed attribute value attrs values (an_item_path p i) = path attrs values as_written p
 printed attribute value attrs values (a_macro_path p) = mod_path p
 printed attribute value attrs values (a_lifetime l) = lifetimes.print l
 printed attribute value attrs values (a_bound b) = printing.bound attrs values b

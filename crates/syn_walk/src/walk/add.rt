@@ -1,6 +1,6 @@
 //! The nodes of types, paths, arguments, bounds and parameters, which lead back to each other.
 
-ghost use Rattle.std.specs.Prelude.{◌≡◌, ◌++◌, OnOk};
+ghost use Rattle.std.specs.Prelude.{◌≡◌, ◌++◌, OnOk, Some};
 ghost use Rattle.token_core.specs.Prints.{each};
 ghost use Rattle.syn_walk.specs.walk.Nodes as spec;
 ghost use Rattle.syn_walk.specs.walk.Nodes.{seen};
@@ -207,10 +207,29 @@ pub(crate) fn add_named<'a, A, E>(
         None => add_path(path, out),
         Some(qself) => {
             add_type(qself.ty.get(), out)?;
-            out.push(NodeOf::QualifiedPath(path, qself.position))?;
-            add_segments(&path.segments, out)
+            add_trait(path, qself.position, out)?;
+            add_qualified(path, qself.position, out)
         }
     }
+}
+
+/// The arguments of each segment of a path that a type qualifies, and the segments after the `>` before theirs.
+#[cycle(add)]
+#[tactic(auto, using(crate::proofs::Walks::walks))]
+fn add_qualified<'a, A, E>(
+    path: &'a PathOf<PathArgumentsOf<A, E>>,
+    position: usize,
+    out: &mut Items<NodeOf<'a, A, E>>,
+) -> Result<(), AllocError>
+    ensures { OnOk result (seen out.new ≡ seen out.old ++ spec.segments_by spec.arguments path.now position (Some position) path.now.segments.0) }
+{
+    let mut left = Some(position);
+    for segment in path.segments.values() {
+        add_item(path, position, left, out)?;
+        add_arguments(&segment.arguments, out)?;
+        left = fewer(left);
+    }
+    Ok(())
 }
 
 #[cycle(add)]
@@ -470,6 +489,57 @@ pub(crate) fn add_type_param<'a, A, E>(
 }
 
 // ---- what leads back to no type
+
+/// The segments before the `>`, if there are any.
+#[tactic(auto, using(crate::proofs::Walks::walks))]
+fn add_trait<'a, A, E>(
+    path: &'a PathOf<PathArgumentsOf<A, E>>,
+    position: usize,
+    out: &mut Items<NodeOf<'a, A, E>>,
+) -> Result<(), AllocError>
+    ensures { OnOk result (seen out.new ≡ seen out.old ++ spec.of_trait path.now position) }
+{
+    if position == 0 {
+        return Ok(());
+    }
+    out.push(NodeOf::TraitPath(path, position))
+}
+
+/// The segments after it, where no more are left before it.
+#[tactic(auto, using(crate::proofs::Walks::walks))]
+fn add_item<'a, A, E>(
+    path: &'a PathOf<PathArgumentsOf<A, E>>,
+    position: usize,
+    left: Option<usize>,
+    out: &mut Items<NodeOf<'a, A, E>>,
+) -> Result<(), AllocError>
+    ensures { OnOk result (seen out.new ≡ seen out.old ++ spec.of_item path.now position left) }
+{
+    match left {
+        None => Ok(()),
+        Some(left) => {
+            if left == 0 {
+                return out.push(NodeOf::ItemPath(path, position));
+            }
+            Ok(())
+        }
+    }
+}
+
+/// How many segments are left before it behind one.
+fn fewer(left: Option<usize>) -> Option<usize>
+    ensures { result ≡ spec.fewer left }
+{
+    match left {
+        None => None,
+        Some(left) => {
+            if left == 0 {
+                return None;
+            }
+            Some(left - 1)
+        }
+    }
+}
 
 #[tactic(auto, using(crate::proofs::Walks::walks))]
 pub(crate) fn add_attributes<'a, A, E>(

@@ -1,5 +1,5 @@
 -- What the loops keep.
-use Rattle.std.proofs.Common.{◌≡◌, ◌++◌, drop}
+use Rattle.std.proofs.Common.{◌≡◌, ◌++◌, Some, drop}
 use Rattle.token_core.specs.Prints.{each}
 use Rattle.syn_walk.specs.walk.Nodes as spec
 use Rattle.syn_walk.specs.walk.Nodes.{seen}
@@ -22,3 +22,6 @@ invariant-add_bounds-loop-bound g l = seen l.out ++ each spec.bound (drop l.boun
 
 abbrev pub invariant-add_params-loop-param : goal.invariant-add_params-loop-param
 invariant-add_params-loop-param g l = seen l.out ++ each spec.param (drop l.param-index l.param-items) ≡ seen l.initial.out ++ each spec.param l.params.0
+
+abbrev pub invariant-add_qualified-loop-segment : goal.invariant-add_qualified-loop-segment
+invariant-add_qualified-loop-segment g l = seen l.out ++ spec.segments_by spec.arguments l.path l.position l.left (drop l.segment-index l.segment-items) ≡ seen l.initial.out ++ spec.segments_by spec.arguments l.path l.position (Some l.position) l.path.segments.0
