@@ -3,6 +3,7 @@
 
 ghost use Rattle.std.specs.Prelude.{◌≡◌};
 ghost use Rattle.syn_nodes.specs.Calls as found;
+ghost use Rattle.syn_nodes.specs.Visits.{category as found_category};
 ghost use Rattle.syn_run.specs.Calls.{Names, Notes, Reads};
 ghost use Rattle.syn_run.specs.Readers.{category};
 ghost use Rattle.syn_run.specs.declared.call.Call.{Call};
@@ -51,7 +52,7 @@ pub extern "C" fn kulojenta_nodes(
     out: &mut [u8],
     report: &mut Report,
 ) -> u32
-    ensures { found.Reads (category verbatim) verbatim.prints reader.now text.now nodes.old nodes.new out.old out.new
+    ensures { found.Reads (found_category verbatim) verbatim.prints reader.now text.now nodes.old nodes.new out.old out.new
         (call_of result report.new) }
 {
     told(

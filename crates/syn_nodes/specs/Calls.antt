@@ -14,7 +14,7 @@ use Rattle.syn_run.specs.Table.{named}
 use Rattle.syn_run.specs.declared.call.Call.{Call}
 use Rattle.syn_run.specs.declared.readers.Reader.{Reader}
 use Rattle.syn_nodes.specs.Found.{Replies}
-use Rattle.syn_nodes.specs.Places.{all}
+use Rattle.syn_nodes.specs.Places.{found}
 use Rattle.syn_nodes.specs.Visits.{visits}
 use Rattle.syn_nodes.specs.declared.node.NodeAt.{NodeAt}
 
@@ -57,7 +57,7 @@ Answers C nodes text outcome = (r : Result (List NodeAt) Refusal) × Replies C n
 module _ {X : Type 0} (of : (r : Reader) → Category (Tree X r)) (prints : Place → X → Print) where
   abbrev pub Comes : Option Reader → Bytes → Outcome → Type 0
   Comes None text outcome = outcome ≡ Err unknown
-  Comes (Some r) text outcome = (¬ IsUtf8 text × (outcome ≡ Err not_utf8)) ⊎ Answers (of r) (λ a. all prints (visits r a)) text outcome
+  Comes (Some r) text outcome = (¬ IsUtf8 text × (outcome ≡ Err not_utf8)) ⊎ Answers (of r) (λ a. found prints (visits r a)) text outcome
 
   abbrev pub Reads : Bytes → Bytes → List NodeAt → List NodeAt → Bytes → Bytes → Call → Type 0
   Reads name text = Calls (λ outcome. (¬ IsUtf8 name × (outcome ≡ Err unknown)) ⊎ Comes (named name) text outcome) text

@@ -9,6 +9,7 @@ use Rattle.token_core.specs.Prints.{Print, each, ident}
 use Rattle.token_core.specs.Spans.{span}
 use Rattle.syn_path.specs.declared.supplied.Place.{Place}
 use Rattle.syn_path.specs.mac.Macros.{span_of as brackets}
+use Rattle.syn_path.specs.Values.{Values}
 use Rattle.syn_attr.specs.attr.Attrs.{Attribute}
 use Rattle.syn_attr.specs.attr.Consts.{values_of}
 use Rattle.syn_attr.specs.attr.Printing.{attribute, outer, value}
@@ -80,47 +81,71 @@ inside x = span (brackets x.delimiter).opening.hi (brackets x.delimiter).closing
 abbrev pub arguments : MetaList → List NodeAt
 arguments x = node 8 (inside x) ∷ pieces None x.tokens
 
--- ---- places, over what a supplied subtree prints in a place
+-- ---- places
 
-module _ {X : Type 0} (prints : Place → X → Print) where
+-- what nodes print: an attribute and a value by themselves, attributes and expressions in a type
+pub record Shown (A E : Type 0) : Type 0 where
+  pub attribute : A → Print
+  pub value : E → Print
+  pub attrs : List A → Print
+  pub values : Values E
+
+abbrev pub shown : {A E : Type 0} → (A → Print) → (E → Print) → (List A → Print) → Values E → Shown A E
+shown a b c d = record { attribute = a; value = b; attrs = c; values = d }
+
+module _ {A E : Type 0} (by : Shown A E) where
   -- what a node prints
-  abbrev pub print : Visited (Attribute X) (Expr X) → Print
-  print = printed (attribute prints) (value prints) (outer prints) (values_of prints)
+  abbrev pub print : Visited A E → Print
+  print = printed by.attribute by.value by.attrs by.values
 
-  abbrev pub place : Visited (Attribute X) (Expr X) → NodeAt
+  abbrev pub place : Visited A E → NodeAt
   place v = node (kind_of v) (span_of (print v))
 
   -- where a segment stands, with its arguments
-  abbrev pub segment_stands : PathSegment (Attribute X) (Expr X) → Span
-  segment_stands s = span_of (ident s.ident ++ types.arguments (outer prints) (values_of prints) as_written s.arguments)
+  abbrev pub segment_stands : PathSegment A E → Span
+  segment_stands s = span_of (ident s.ident ++ types.arguments by.attrs by.values as_written s.arguments)
 
-  abbrev pub up_to : Span → Option (PathSegment (Attribute X) (Expr X)) → List NodeAt
+  abbrev pub up_to : Span → Option (PathSegment A E) → List NodeAt
   up_to whole None = []
   up_to whole (Some s) = node 1 (span whole.lo (segment_stands s).hi) ∷ []
 
-  abbrev pub from : Span → Option (PathSegment (Attribute X) (Expr X)) → List NodeAt
+  abbrev pub from : Span → Option (PathSegment A E) → List NodeAt
   from whole None = []
   from whole (Some s) = node 1 (span (segment_stands s).lo whole.hi) ∷ []
 
   -- the first segments of a path, so many
-  abbrev pub before : Path (Attribute X) (Expr X) → ℕ → Span → List NodeAt
+  abbrev pub before : Path A E → ℕ → Span → List NodeAt
   before p n whole = up_to whole (slice_get p.segments.0 (n - 1))
 
   -- and those behind them
-  abbrev pub after : Path (Attribute X) (Expr X) → ℕ → Span → List NodeAt
+  abbrev pub after : Path A E → ℕ → Span → List NodeAt
   after p n whole = from whole (slice_get p.segments.0 n)
 
-  -- a node by itself
-  abbrev pub plain : Visited (Attribute X) (Expr X) → List NodeAt
+  -- a node, of an attribute without what it holds
+  abbrev pub plain : Visited A E → List NodeAt
   plain (a_trait_path p n) = before p n (span_of (print (a_trait_path p n)))
   plain (an_item_path p n) = after p n (span_of (print (an_item_path p n)))
   plain (some_arguments x) = arguments x
   plain v = place v ∷ []
 
-  -- an attribute, and what it holds; any other node by itself
-  abbrev pub places : Visited (Attribute X) (Expr X) → List NodeAt
-  places (an_attribute a) = plain (an_attribute a) ++ each plain (meta a.meta)
-  places v = plain v
+  -- and with that
+  module _ (parts : A → List NodeAt) where
+    abbrev pub places : Visited A E → List NodeAt
+    places (an_attribute a) = plain (an_attribute a) ++ parts a
+    places v = plain v
 
-  abbrev pub all : Visits (Attribute X) (Expr X) → List NodeAt
-  all l = each places l
+    abbrev pub all : Visits A E → List NodeAt
+    all l = each places l
+
+-- ---- over what a supplied subtree prints in a place
+
+module _ {X : Type 0} (prints : Place → X → Print) where
+  abbrev pub by_subtree : Shown (Attribute X) (Expr X)
+  by_subtree = shown (attribute prints) (value prints) (outer prints) (values_of prints)
+
+  -- what an attribute holds
+  abbrev pub meta_parts : Attribute X → List NodeAt
+  meta_parts a = each (plain by_subtree) (meta a.meta)
+
+  abbrev pub found : Visits (Attribute X) (Expr X) → List NodeAt
+  found = all by_subtree meta_parts

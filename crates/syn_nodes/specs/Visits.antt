@@ -14,7 +14,10 @@ use Rattle.syn_readers.specs.declared.by_name.PathReader.{PathReader}
 use Rattle.syn_readers.specs.declared.by_name.PathReader.TheVariants as p
 use Rattle.syn_readers.specs.declared.by_name.TypeReader.{TypeReader}
 use Rattle.syn_readers.specs.declared.by_name.TypeReader.TheVariants as t
-use Rattle.syn_readers.specs.Readers.{TypesTree, PathsTree, GenericsTree}
+use Rattle.syn_generics.specs.generics.Promises as generics_promises
+use Rattle.syn_path.specs.Traits.{Attributes, Expressions, Subtree}
+use Rattle.syn_readers.specs.Readers as readers
+use Rattle.syn_readers.specs.Readers.{Category, of_grammar, TypesTree, PathsTree, GenericsTree}
 use Rattle.syn_run.specs.declared.items.ItemReader.{ItemReader}
 use Rattle.syn_run.specs.declared.items.ItemReader.TheVariants as i
 use Rattle.syn_run.specs.declared.readers.PatternReader.{PatternReader}
@@ -22,7 +25,8 @@ use Rattle.syn_run.specs.declared.readers.PatternReader.TheVariants as q
 use Rattle.syn_run.specs.declared.readers.Reader.{Reader}
 use Rattle.syn_run.specs.declared.readers.Reader.TheVariants.{Macro, ModStyle, Meta, MetaList, MetaNameValue, Outer, Inner, PointerMutability, Types, Paths, Generics, Items, Patterns}
 use Rattle.syn_run.specs.Items.{ItemsTree}
-use Rattle.syn_run.specs.Readers.{PatternsTree, Tree}
+use Rattle.syn_run.specs.Readers as run
+use Rattle.syn_run.specs.Readers.{PatternsTree, Tree, attributes_in, expressions_in}
 use Rattle.syn_ty.specs.ty.Trees.{TypeTree}
 use Rattle.syn_walk.specs.walk.Attrs as attrs
 use Rattle.syn_walk.specs.walk.Generics as generics
@@ -97,6 +101,16 @@ module _ {A E : Type 0} where
   abbrev pub items : (r : ItemReader) → ItemsTree A E r → Visits A E
   items i.Struct x = item x
   items i.Head x = item x
+
+-- what a reader reads and promises: as a run says it, but of the view of generics for an implementation as of the generics, since no view is printed
+module _ {A E : Type 0} (attrs : Attributes A) (exprs : Expressions E) where
+  abbrev pub generics_category : (r : GenericsReader) → Category (GenericsTree A E r)
+  generics_category g.ImplGenerics = of_grammar (generics_promises.generics attrs exprs)
+  generics_category r = readers.generics_category attrs exprs r
+
+abbrev pub category : {X : Type 0} → Subtree X → (r : Reader) → Category (Tree X r)
+category sub (Generics r) = generics_category (attributes_in sub) (expressions_in sub) r
+category sub r = run.category sub r
 
 module _ {X : Type 0} where
   abbrev pub pat : pats.Pat X → Visits (Attribute X) (Expr X)

@@ -3,10 +3,9 @@
 
 ghost use Rattle.std.specs.Prelude.{◌≡◌, ◌<◌};
 ghost use Rattle.syn_nodes.specs.Calls as spec;
-ghost use Rattle.syn_nodes.specs.Places.{all};
-ghost use Rattle.syn_nodes.specs.Visits.{visits};
+ghost use Rattle.syn_nodes.specs.Places.{found};
+ghost use Rattle.syn_nodes.specs.Visits.{category, visits};
 ghost use Rattle.syn_run.specs.Calls as calls;
-ghost use Rattle.syn_run.specs.Readers.{category};
 ghost use Rattle.syn_run.specs.Table.{named};
 
 use crate::node::NodeAt;
@@ -60,11 +59,11 @@ fn nodes_by<X: Subtree>(
     nodes: &mut [NodeAt],
     out: &mut [u8],
 ) -> Call
-    ensures { spec.Calls (spec.Answers (category X.Subtree reader) (λ a. all X.prints (visits reader a)) text.now) text.now nodes.old
+    ensures { spec.Calls (spec.Answers (category X.Subtree reader) (λ a. found X.prints (visits reader a)) text.now) text.now nodes.old
         nodes.new out.old out.new result }
 {
     match nodes_of_text::<X>(alloc, reader, text) {
-        Ok(found) => give(found.as_slice(), nodes),
+        Ok(it) => give(it.as_slice(), nodes),
         Err(refusal) => {
             let kind = 16 + number(refusal.kind());
             tell(refusal.text(), 1, kind, place_of(text, &refusal), out)

@@ -1,18 +1,14 @@
 //! Nodes by their kinds and places.
 
-ghost use Rattle.std.specs.Prelude.{◌≡◌, ◌++◌, [], OnOk, IfOk};
-ghost use Rattle.token_core.specs.Prints.{each};
-ghost use Rattle.token_core.specs.Spans.{span};
+ghost use Rattle.std.specs.Prelude.{◌≡◌, ◌++◌, List, None, OnOk, IfOk};
 ghost use Rattle.syn_nodes.specs.Places as spec;
-ghost use Rattle.syn_attr.specs.attr.Printing.{outer};
-ghost use Rattle.syn_attr.specs.attr.Consts.{values_of};
+ghost use Rattle.syn_nodes.specs.declared.node.NodeAt.{NodeAt};
 ghost use Rattle.syn_walk.specs.walk.Nodes.{saw, seen};
 
 use std::alloc::{AllocError, Global};
 use syn_attr::attr::{Attribute, MetaList};
-use syn_attr::expr::Expr;
 use syn_path::path::{PathOf, PathSegmentOf};
-use syn_path::supplied::Subtree;
+use syn_path::supplied::{Attributes, Subtree, Value};
 use syn_ty::path::PathArgumentsOf;
 use syn_walk::spanned::{span_of, span_of_tokens, span_of_tree};
 use syn_walk::walk::{NodeOf, Walk, nodes};
@@ -55,85 +51,90 @@ pub struct NodeAt {
     pub end: usize,
 }
 
-/// A node over a supplied subtree.
-pub type Node<'a, X> = NodeOf<'a, Attribute<X>, Expr<X>>;
+/// An attribute whose parts are nodes.
+pub trait Parts {
+    /// The nodes of its parts, by their kinds and places.
+    ghost parts: { Self → List NodeAt };
+
+    /// Appends them. Refused for want of memory, some of them may be there.
+    fn add_parts(&self, alloc: Global, out: &mut Items<NodeAt>) -> Result<(), AllocError>
+        ensures { OnOk result (out.new ≡ out.old ++ parts self.now) };
+}
+
+/// Its path, and its arguments or its value.
+impl<X: Subtree> Parts for Attribute<X> {
+    ghost parts = { spec.meta_parts X.prints };
+
+    fn add_parts(&self, alloc: Global, out: &mut Items<NodeAt>) -> Result<(), AllocError> {
+        let found = nodes(alloc, &self.meta)?;
+        for node in found.as_slice() {
+            add_plain(alloc, node, out)?;
+        }
+        Ok(())
+    }
+}
 
 /// The nodes of a tree (`syn_walk::walk::nodes`), by their kinds and places, each attribute before its path and its arguments or its value.
-pub fn places_of<X: Subtree, T: Walk<Attribute<X>, Expr<X>>>(
+pub fn places_of<A: Attributes + ToTokens + Parts, E: Value + ToTokens, T: Walk<A, E>>(
     alloc: Global,
     tree: &T,
 ) -> Result<Items<NodeAt>, AllocError>
-    ensures { IfOk result (λ it. it ≡ spec.all X.prints (T.visits tree.now)) }
+    ensures { IfOk result (λ it. it ≡ spec.all (spec.shown A.print E.print A.shown E.values) A.parts (T.visits tree.now)) }
 {
     let found = nodes(alloc, tree)?;
-    places::<X>(alloc, &found)
+    places(alloc, &found)
 }
 
 /// These nodes, by their kinds and places.
-pub fn places<X: Subtree>(
+pub fn places<A: Attributes + ToTokens + Parts, E: Value + ToTokens>(
     alloc: Global,
-    found: &Items<Node<'_, X>>,
+    found: &Items<NodeOf<'_, A, E>>,
 ) -> Result<Items<NodeAt>, AllocError>
-    ensures { IfOk result (λ it. it ≡ spec.all X.prints (seen found.now)) }
+    ensures { IfOk result (λ it. it ≡ spec.all (spec.shown A.print E.print A.shown E.values) A.parts (seen found.now)) }
 {
     let mut out = Items::new(alloc);
     for node in found.as_slice() {
-        add_node::<X>(alloc, node, &mut out)?;
+        add_node(alloc, node, &mut out)?;
     }
     Ok(out)
 }
 
-fn add_node<X: Subtree>(
+fn add_node<A: Attributes + ToTokens + Parts, E: Value + ToTokens>(
     alloc: Global,
-    node: &Node<'_, X>,
+    node: &NodeOf<'_, A, E>,
     out: &mut Items<NodeAt>,
 ) -> Result<(), AllocError>
-    ensures { OnOk result (out.new ≡ out.old ++ spec.places X.prints (saw node.now)) }
+    ensures { OnOk result (out.new ≡ out.old ++ spec.places (spec.shown A.print E.print A.shown E.values) A.parts (saw node.now)) }
 {
+    add_plain(alloc, node, out)?;
     match node {
-        NodeOf::Attribute(attribute) => {
-            add_plain::<X>(alloc, node, out)?;
-            add_each_plain::<X>(alloc, &nodes(alloc, &attribute.meta)?, out)
-        }
-        _ => add_plain::<X>(alloc, node, out),
+        NodeOf::Attribute(attribute) => attribute.add_parts(alloc, out),
+        _ => Ok(()),
     }
 }
 
-/// Appends each of these nodes, of attributes nothing that they hold.
-fn add_each_plain<X: Subtree>(
+/// Appends a node, of an attribute without what it holds.
+fn add_plain<A: Attributes + ToTokens, E: Value + ToTokens>(
     alloc: Global,
-    found: &Items<Node<'_, X>>,
+    node: &NodeOf<'_, A, E>,
     out: &mut Items<NodeAt>,
 ) -> Result<(), AllocError>
-    ensures { OnOk result (out.new ≡ out.old ++ each (spec.plain X.prints) (seen found.now)) }
-{
-    for node in found.as_slice() {
-        add_plain::<X>(alloc, node, out)?;
-    }
-    Ok(())
-}
-
-fn add_plain<X: Subtree>(
-    alloc: Global,
-    node: &Node<'_, X>,
-    out: &mut Items<NodeAt>,
-) -> Result<(), AllocError>
-    ensures { OnOk result (out.new ≡ out.old ++ spec.plain X.prints (saw node.now)) }
+    ensures { OnOk result (out.new ≡ out.old ++ spec.plain (spec.shown A.print E.print A.shown E.values) (saw node.now)) }
 {
     match node {
         NodeOf::MetaArguments(list) => add_arguments(list, out),
         NodeOf::TraitPath(path, position) => {
-            add_before::<X>(alloc, path, *position, span_of(alloc, node)?, out)
+            add_before(alloc, path, *position, span_of(alloc, node)?, out)
         }
         NodeOf::ItemPath(path, position) => {
-            add_after::<X>(alloc, path, *position, span_of(alloc, node)?, out)
+            add_after(alloc, path, *position, span_of(alloc, node)?, out)
         }
-        _ => out.push(node_at(kind_of::<X>(node), span_of(alloc, node)?)),
+        _ => out.push(node_at(kind_of(node), span_of(alloc, node)?)),
     }
 }
 
 /// The number of a node's kind.
-fn kind_of<X>(node: &Node<'_, X>) -> u32
+fn kind_of<A, E>(node: &NodeOf<'_, A, E>) -> u32
     ensures { result ≡ spec.kind_of (saw node.now) }
 {
     match node {
@@ -173,11 +174,11 @@ fn node_at(kind: u32, span: Span) -> NodeAt
 }
 
 /// Where a segment stands, with its arguments.
-fn span_of_segment<X: Subtree>(
+fn span_of_segment<A: Attributes + ToTokens, E: Value + ToTokens>(
     alloc: Global,
-    segment: &PathSegmentOf<PathArgumentsOf<Attribute<X>, Expr<X>>>,
+    segment: &PathSegmentOf<PathArgumentsOf<A, E>>,
 ) -> Result<Span, AllocError>
-    ensures { IfOk result (λ s. s ≡ spec.segment_stands X.prints segment.now) }
+    ensures { IfOk result (λ s. s ≡ spec.segment_stands (spec.shown A.print E.print A.shown E.values) segment.now) }
 {
     let mut tokens = TokenStream::new(alloc);
     segment.ident.to_tokens(alloc, &mut tokens)?;
@@ -186,38 +187,38 @@ fn span_of_segment<X: Subtree>(
 }
 
 /// Appends the first segments of a path, so many.
-fn add_before<X: Subtree>(
+fn add_before<A: Attributes + ToTokens, E: Value + ToTokens>(
     alloc: Global,
-    path: &PathOf<PathArgumentsOf<Attribute<X>, Expr<X>>>,
+    path: &PathOf<PathArgumentsOf<A, E>>,
     position: usize,
     whole: Span,
     out: &mut Items<NodeAt>,
 ) -> Result<(), AllocError>
-    ensures { OnOk result (out.new ≡ out.old ++ spec.before X.prints path.now position whole) }
+    ensures { OnOk result (out.new ≡ out.old ++ spec.before (spec.shown A.print E.print A.shown E.values) path.now position whole) }
 {
     match path.segments.value(position.saturating_sub(1)) {
         None => Ok(()),
         Some(segment) => {
-            let last = span_of_segment::<X>(alloc, segment)?;
+            let last = span_of_segment(alloc, segment)?;
             out.push(node_at(PATH, Span::new(whole.lo, last.hi)))
         }
     }
 }
 
 /// Appends the segments behind so many.
-fn add_after<X: Subtree>(
+fn add_after<A: Attributes + ToTokens, E: Value + ToTokens>(
     alloc: Global,
-    path: &PathOf<PathArgumentsOf<Attribute<X>, Expr<X>>>,
+    path: &PathOf<PathArgumentsOf<A, E>>,
     position: usize,
     whole: Span,
     out: &mut Items<NodeAt>,
 ) -> Result<(), AllocError>
-    ensures { OnOk result (out.new ≡ out.old ++ spec.after X.prints path.now position whole) }
+    ensures { OnOk result (out.new ≡ out.old ++ spec.after (spec.shown A.print E.print A.shown E.values) path.now position whole) }
 {
     match path.segments.value(position) {
         None => Ok(()),
         Some(segment) => {
-            let first = span_of_segment::<X>(alloc, segment)?;
+            let first = span_of_segment(alloc, segment)?;
             out.push(node_at(PATH, Span::new(first.lo, whole.hi)))
         }
     }

@@ -2,7 +2,6 @@
 
 ghost use Rattle.std.specs.Prelude.{◌≡◌, ◌++◌, IfOk, OnOk};
 ghost use Rattle.item_small.specs.part.Fronts as parts;
-ghost use Rattle.syn_attr.specs.attr.Traits as given;
 ghost use Rattle.syn_forms.specs.declared.places.TypePlace.TheVariants.{Plus};
 ghost use Rattle.syn_nodes.specs.Found as spec;
 ghost use Rattle.syn_nodes.specs.Places as places;
@@ -15,13 +14,14 @@ ghost use Rattle.syn_run.specs.Readers as run;
 ghost use Rattle.syn_walk.specs.walk.Patterns as patterns;
 ghost use Rattle.syn_walk.specs.walk.Nodes.{seen};
 ghost use Rattle.token_core.specs.Headline.{Headline};
+ghost use Rattle.token_core.specs.Prints.{each};
 ghost use Rattle.token_core.specs.Reads.{Fails, Follows, Gives, Parsed};
 ghost use Rattle.token_core.specs.Trees.{toks};
 ghost use Rattle.token_text.specs.Wholes.{text_end};
 
-use crate::node::{NodeAt, places, places_of};
+use crate::node::{NodeAt, Parts, places, places_of};
 use item_small::item::BodyOf;
-use item_small::structs::{ItemBodyOf, StructItemOf};
+use item_small::structs::{ItemBodyOf, ItemFieldOf, StructItemOf};
 use std::alloc::{AllocError, Global};
 use std::marker::PhantomData;
 use syn_attr::attr::{Attribute, Meta, MetaList, MetaNameValue};
@@ -43,7 +43,7 @@ use syn_pat::place::PatPlace;
 use syn_pat::supplied::{PathArguments, QSelf, Type};
 use syn_path::mac::Macro;
 use syn_path::path::{Arguments, NoArguments, PathOf, PathSegmentOf};
-use syn_path::supplied::Subtree;
+use syn_path::supplied::{Attributes, Subtree, Value};
 use syn_readers::by_name::{GenericsReader, PathReader, TypeReader, taken};
 use syn_run::readers::{PatternReader, Reader};
 use syn_ty::generics::{
@@ -61,7 +61,8 @@ use syn_ty::ty::{
 };
 use syn_walk::walk::pattern::WalkQualifier;
 use syn_walk::walk::{NodeOf, Walk};
-use token_core::{Boxed, ByParse, Error, Items, Parse, ParseStream, Parser, Span, TokenStream};
+use token_core::token::Comma;
+use token_core::{Boxed, ByParse, Error, Items, Parse, ParseStream, Parser, Punctuated, Span, ToTokens, TokenStream};
 use token_text::lex;
 /// Reads all of a text by a reader, and answers the nodes of what was read, in order of writing: over any supplied subtree. It is refused as
 /// `read_text` of `syn_run` is.
@@ -70,11 +71,24 @@ pub fn nodes_of_text<X: Subtree>(
     reader: Reader,
     text: &str,
 ) -> Result<Items<NodeAt>, Error>
-    ensures { spec.Replies (run.category X.Subtree reader) (λ a. places.all X.prints (visits.visits reader a))
+    ensures { spec.Replies (visits.category X.Subtree reader) (λ a. places.found X.prints (visits.visits reader a))
         (text_end text.now) text.now result }
 {
+    nodes_in::<X>(alloc, reader, Span::new(text.len(), text.len()), text)
+}
+
+/// The nodes of what a reader reads of a text in a scope.
+fn nodes_in<X: Subtree>(
+    alloc: Global,
+    reader: Reader,
+    scope: Span,
+    text: &str,
+) -> Result<Items<NodeAt>, Error>
+    ensures { spec.Replies (visits.category X.Subtree reader) (λ a. places.found X.prints (visits.visits reader a)) scope text.now
+        result }
+{
     let tokens = lex(alloc, text)?;
-    nodes_by::<X>(alloc, reader, Span::new(text.len(), text.len()), tokens)
+    nodes_by::<X>(alloc, reader, scope, tokens)
 }
 
 /// Reads all of a list in a scope, and answers the nodes of what was read.
@@ -84,253 +98,266 @@ fn nodes_by<X: Subtree>(
     scope: Span,
     tokens: TokenStream,
 ) -> Result<Items<NodeAt>, Error>
-    ensures { spec.Finds (run.category X.Subtree reader) (λ a. places.all X.prints (visits.visits reader a)) scope
+    ensures { spec.Finds (visits.category X.Subtree reader) (λ a. places.found X.prints (visits.visits reader a)) scope
         (toks tokens) result }
 {
     match reader {
-        Reader::Macro => found::<X, Macro>(alloc, scope, tokens),
-        Reader::ModStyle => found_with::<X, _>(
+        Reader::Macro => found::<Attribute<X>, Expr<X>, Macro>(alloc, scope, tokens),
+        Reader::ModStyle => found_with::<Attribute<X>, Expr<X>, _>(
             alloc,
             ModStyle::<NoArguments>::new(),
             scope,
             tokens,
         ),
-        Reader::Meta => found::<X, Meta<X>>(alloc, scope, tokens),
-        Reader::MetaList => found::<X, MetaList>(alloc, scope, tokens),
-        Reader::MetaNameValue => found::<X, MetaNameValue<X>>(alloc, scope, tokens),
-        Reader::Outer => found_with::<X, _>(alloc, ParseOuter::<X>::new(), scope, tokens),
-        Reader::Inner => found_with::<X, _>(alloc, ParseInner::<X>::new(), scope, tokens),
-        Reader::PointerMutability => found::<X, PointerMutability>(alloc, scope, tokens),
-        Reader::Types(reader) => nodes_of_types::<X>(alloc, reader, scope, tokens),
-        Reader::Paths(reader) => nodes_of_paths::<X>(alloc, reader, scope, tokens),
-        Reader::Generics(reader) => nodes_of_generics::<X>(alloc, reader, scope, tokens),
-        Reader::Items(_) => nodes_of_struct::<X>(alloc, scope, tokens),
+        Reader::Meta => found::<Attribute<X>, Expr<X>, Meta<X>>(alloc, scope, tokens),
+        Reader::MetaList => found::<Attribute<X>, Expr<X>, MetaList>(alloc, scope, tokens),
+        Reader::MetaNameValue => found::<Attribute<X>, Expr<X>, MetaNameValue<X>>(alloc, scope, tokens),
+        Reader::Outer => found_with::<Attribute<X>, Expr<X>, _>(alloc, ParseOuter::<X>::new(), scope, tokens),
+        Reader::Inner => found_with::<Attribute<X>, Expr<X>, _>(alloc, ParseInner::<X>::new(), scope, tokens),
+        Reader::PointerMutability => found::<Attribute<X>, Expr<X>, PointerMutability>(alloc, scope, tokens),
+        Reader::Types(reader) => nodes_of_types::<Attribute<X>, Expr<X>>(alloc, reader, scope, tokens),
+        Reader::Paths(reader) => nodes_of_paths::<Attribute<X>, Expr<X>>(alloc, reader, scope, tokens),
+        Reader::Generics(reader) => nodes_of_generics::<Attribute<X>, Expr<X>>(alloc, reader, scope, tokens),
+        Reader::Items(_) => nodes_of_struct::<Attribute<X>, Expr<X>>(alloc, scope, tokens),
         Reader::Patterns(reader) => nodes_of_patterns::<X>(alloc, reader, scope, tokens),
     }
 }
 
 /// Reads all of a list as a `T` in a scope, and answers its nodes.
-fn found<X: Subtree, T: Parse + Walk<Attribute<X>, Expr<X>>>(
+fn found<A: Attributes + ToTokens + Parts, E: Value + ToTokens, T: Parse + Walk<A, E>>(
     alloc: Global,
     scope: Span,
     tokens: TokenStream,
 ) -> Result<Items<NodeAt>, Error>
-    ensures { spec.Has T.reads T.refuses T.promise (λ a. places.all X.prints (T.visits a)) scope (toks tokens) result }
+    ensures { spec.Has T.reads T.refuses T.promise (λ a. places.all (places.shown A.print E.print A.shown E.values) A.parts (T.visits a)) scope (toks tokens) result }
 {
     let tree = taken(alloc, ByParse::<T>::new(), scope, tokens)?;
-    Ok(places_of::<X, T>(alloc, &tree)?)
+    Ok(places_of::<A, E, T>(alloc, &tree)?)
 }
 
 /// Reads all of a list by a parser in a scope, and answers the nodes of what that answers.
-fn found_with<X: Subtree, P: Parser + Drop>(
+fn found_with<A: Attributes + ToTokens + Parts, E: Value + ToTokens, P: Parser + Drop>(
     alloc: Global,
     parser: P,
     scope: Span,
     tokens: TokenStream,
 ) -> Result<Items<NodeAt>, Error>
 where
-    P::Output: Walk<Attribute<X>, Expr<X>>,
+    P::Output: Walk<A, E>,
     requires { P.can_parse parser }
-    ensures { spec.Has (P.reads parser) (P.refuses parser) (P.promise parser) (λ a. places.all X.prints (P.Output.visits a))
+    ensures { spec.Has (P.reads parser) (P.refuses parser) (P.promise parser) (λ a. places.all (places.shown A.print E.print A.shown E.values) A.parts (P.Output.visits a))
         scope (toks tokens) result }
 {
     let tree = taken(alloc, parser, scope, tokens)?;
-    Ok(places_of::<X, P::Output>(alloc, &tree)?)
+    Ok(places_of::<A, E, P::Output>(alloc, &tree)?)
 }
 
 /// The same of a type, or a form of types.
-fn nodes_of_types<X: Subtree>(
+fn nodes_of_types<A: Attributes + ToTokens + Parts, E: Value + ToTokens>(
     alloc: Global,
     reader: TypeReader,
     scope: Span,
     tokens: TokenStream,
 ) -> Result<Items<NodeAt>, Error>
-    ensures { spec.Finds (readers.types_category (given.attributes X.Subtree) (given.expressions X.Subtree) reader) (λ a. places.all X.prints (visits.types reader a)) scope (toks tokens) result }
+    ensures { spec.Finds (readers.types_category A.Attributes E.Value reader)
+        (λ a. places.all (places.shown A.print E.print A.shown E.values) A.parts (visits.types reader a)) scope (toks tokens) result }
 {
     match reader {
-        TypeReader::Any => found::<X, TypeOf<Attribute<X>, Expr<X>>>(alloc, scope, tokens),
-        TypeReader::WithoutPlus => found_with::<X, _>(
+        TypeReader::Any => found::<A, E, TypeOf<A, E>>(alloc, scope, tokens),
+        TypeReader::WithoutPlus => found_with::<A, E, _>(
             alloc,
-            WithoutPlusOf::<Attribute<X>, Expr<X>>::new(),
+            WithoutPlusOf::<A, E>::new(),
             scope,
             tokens,
         ),
-        TypeReader::Array => found::<X, TypeArrayOf<TypeOf<Attribute<X>, Expr<X>>, Attribute<X>, Expr<X>>>(alloc, scope, tokens),
-        TypeReader::FnPtr => found::<X, TypeFnPtrOf<Attribute<X>, Expr<X>>>(alloc, scope, tokens),
-        TypeReader::Group => found::<X, TypeGroupOf<TypeOf<Attribute<X>, Expr<X>>, Attribute<X>>>(alloc, scope, tokens),
-        TypeReader::ImplTrait => found::<X, TypeImplTraitOf<TypeParamBoundOf<Attribute<X>, Expr<X>>, Attribute<X>>>(
+        TypeReader::Array => found::<A, E, TypeArrayOf<TypeOf<A, E>, A, E>>(alloc, scope, tokens),
+        TypeReader::FnPtr => found::<A, E, TypeFnPtrOf<A, E>>(alloc, scope, tokens),
+        TypeReader::Group => found::<A, E, TypeGroupOf<TypeOf<A, E>, A>>(alloc, scope, tokens),
+        TypeReader::ImplTrait => found::<A, E, TypeImplTraitOf<TypeParamBoundOf<A, E>, A>>(
             alloc, scope, tokens,
         ),
-        TypeReader::ImplWithoutPlus => found_with::<X, _>(
+        TypeReader::ImplWithoutPlus => found_with::<A, E, _>(
             alloc,
-            ImplWithoutPlusOf::<Attribute<X>, Expr<X>>::new(),
+            ImplWithoutPlusOf::<A, E>::new(),
             scope,
             tokens,
         ),
-        TypeReader::Infer => found::<X, TypeInferOf<Attribute<X>>>(alloc, scope, tokens),
-        TypeReader::Macro => found::<X, TypeMacroOf<Attribute<X>>>(alloc, scope, tokens),
-        TypeReader::Never => found::<X, TypeNeverOf<Attribute<X>>>(alloc, scope, tokens),
-        TypeReader::Paren => found::<X, TypeParenOf<TypeOf<Attribute<X>, Expr<X>>, Attribute<X>>>(alloc, scope, tokens),
-        TypeReader::Path => found::<X, TypePathOf<Attribute<X>, Expr<X>>>(alloc, scope, tokens),
-        TypeReader::Ptr => found::<X, TypePtrOf<TypeOf<Attribute<X>, Expr<X>>, Attribute<X>>>(alloc, scope, tokens),
-        TypeReader::Reference => found::<X, TypeReferenceOf<TypeOf<Attribute<X>, Expr<X>>, Attribute<X>>>(
+        TypeReader::Infer => found::<A, E, TypeInferOf<A>>(alloc, scope, tokens),
+        TypeReader::Macro => found::<A, E, TypeMacroOf<A>>(alloc, scope, tokens),
+        TypeReader::Never => found::<A, E, TypeNeverOf<A>>(alloc, scope, tokens),
+        TypeReader::Paren => found::<A, E, TypeParenOf<TypeOf<A, E>, A>>(alloc, scope, tokens),
+        TypeReader::Path => found::<A, E, TypePathOf<A, E>>(alloc, scope, tokens),
+        TypeReader::Ptr => found::<A, E, TypePtrOf<TypeOf<A, E>, A>>(alloc, scope, tokens),
+        TypeReader::Reference => found::<A, E, TypeReferenceOf<TypeOf<A, E>, A>>(
             alloc, scope, tokens,
         ),
-        TypeReader::Slice => found::<X, TypeSliceOf<TypeOf<Attribute<X>, Expr<X>>, Attribute<X>>>(alloc, scope, tokens),
-        TypeReader::TraitObject => found::<X, TypeTraitObjectOf<TypeParamBoundOf<Attribute<X>, Expr<X>>, Attribute<X>>>(
+        TypeReader::Slice => found::<A, E, TypeSliceOf<TypeOf<A, E>, A>>(alloc, scope, tokens),
+        TypeReader::TraitObject => found::<A, E, TypeTraitObjectOf<TypeParamBoundOf<A, E>, A>>(
             alloc, scope, tokens,
         ),
-        TypeReader::ObjectWithoutPlus => found_with::<X, _>(
+        TypeReader::ObjectWithoutPlus => found_with::<A, E, _>(
             alloc,
-            ObjectWithoutPlusOf::<Attribute<X>, Expr<X>>::new(),
+            ObjectWithoutPlusOf::<A, E>::new(),
             scope,
             tokens,
         ),
-        TypeReader::Tuple => found::<X, TypeTupleOf<TypeOf<Attribute<X>, Expr<X>>, Attribute<X>>>(alloc, scope, tokens),
-        TypeReader::Return => found::<X, ReturnTypeOf<TypeOf<Attribute<X>, Expr<X>>>>(alloc, scope, tokens),
-        TypeReader::ReturnWithoutPlus => found_with::<X, _>(
+        TypeReader::Tuple => found::<A, E, TypeTupleOf<TypeOf<A, E>, A>>(alloc, scope, tokens),
+        TypeReader::Return => found::<A, E, ReturnTypeOf<TypeOf<A, E>>>(alloc, scope, tokens),
+        TypeReader::ReturnWithoutPlus => found_with::<A, E, _>(
             alloc,
-            ReturnWithoutPlusOf::<Attribute<X>, Expr<X>>::new(),
+            ReturnWithoutPlusOf::<A, E>::new(),
             scope,
             tokens,
         ),
-        TypeReader::NamedArg => found::<X, NamedArgOf<TypeOf<Attribute<X>, Expr<X>>, Attribute<X>>>(alloc, scope, tokens),
-        TypeReader::Abi => found::<X, Abi>(alloc, scope, tokens),
-        TypeReader::OptionalAbi => found_with::<X, _>(alloc, ParseOptionalAbi::new(), scope, tokens),
+        TypeReader::NamedArg => found::<A, E, NamedArgOf<TypeOf<A, E>, A>>(alloc, scope, tokens),
+        TypeReader::Abi => found::<A, E, Abi>(alloc, scope, tokens),
+        TypeReader::OptionalAbi => found_with::<A, E, _>(alloc, ParseOptionalAbi::new(), scope, tokens),
     }
 }
 
 /// The same of a path or its arguments.
-fn nodes_of_paths<X: Subtree>(
+fn nodes_of_paths<A: Attributes + ToTokens + Parts, E: Value + ToTokens>(
     alloc: Global,
     reader: PathReader,
     scope: Span,
     tokens: TokenStream,
 ) -> Result<Items<NodeAt>, Error>
-    ensures { spec.Finds (readers.paths_category (given.attributes X.Subtree) (given.expressions X.Subtree) reader) (λ a. places.all X.prints (visits.paths reader a)) scope (toks tokens) result }
+    ensures { spec.Finds (readers.paths_category A.Attributes E.Value reader)
+        (λ a. places.all (places.shown A.print E.print A.shown E.values) A.parts (visits.paths reader a)) scope (toks tokens) result }
 {
     match reader {
-        PathReader::Whole => found::<X, PathOf<PathArgumentsOf<Attribute<X>, Expr<X>>>>(alloc, scope, tokens),
-        PathReader::Segment => found::<X, PathSegmentOf<PathArgumentsOf<Attribute<X>, Expr<X>>>>(
+        PathReader::Whole => found::<A, E, PathOf<PathArgumentsOf<A, E>>>(alloc, scope, tokens),
+        PathReader::Segment => found::<A, E, PathSegmentOf<PathArgumentsOf<A, E>>>(
             alloc, scope, tokens,
         ),
-        PathReader::Argument => found::<X, GenericArgumentOf<Attribute<X>, Expr<X>>>(alloc, scope, tokens),
+        PathReader::Argument => found::<A, E, GenericArgumentOf<A, E>>(alloc, scope, tokens),
         PathReader::AngleBracketed => found::<
-            X,
-            AngleBracketedGenericArgumentsOf<GenericArgumentOf<Attribute<X>, Expr<X>>>,
+            A,
+            E,
+            AngleBracketedGenericArgumentsOf<GenericArgumentOf<A, E>>,
         >(alloc, scope, tokens),
-        PathReader::ParseTurbofish => found_with::<X, _>(
+        PathReader::ParseTurbofish => found_with::<A, E, _>(
             alloc,
-            ParseTurbofishOf::<Attribute<X>, Expr<X>>::new(),
+            ParseTurbofishOf::<A, E>::new(),
             scope,
             tokens,
         ),
         PathReader::Parenthesized => found::<
-            X,
-            ParenthesizedGenericArgumentsOf<TypeOf<Attribute<X>, Expr<X>>, Attribute<X>>,
+            A,
+            E,
+            ParenthesizedGenericArgumentsOf<TypeOf<A, E>, A>,
         >(alloc, scope, tokens),
     }
 }
 
 /// The same of generics, parameters, binders, bounds, captures or where clauses.
-fn nodes_of_generics<X: Subtree>(
+fn nodes_of_generics<A: Attributes + ToTokens + Parts, E: Value + ToTokens>(
     alloc: Global,
     reader: GenericsReader,
     scope: Span,
     tokens: TokenStream,
 ) -> Result<Items<NodeAt>, Error>
-    ensures { spec.Finds (readers.generics_category (given.attributes X.Subtree) (given.expressions X.Subtree) reader) (λ a. places.all X.prints (visits.of_generics reader a)) scope (toks tokens) result }
+    ensures { spec.Finds (visits.generics_category A.Attributes E.Value reader)
+        (λ a. places.all (places.shown A.print E.print A.shown E.values) A.parts (visits.of_generics reader a)) scope (toks tokens) result }
 {
     match reader {
-        GenericsReader::Param => found::<X, GenericParamOf<Attribute<X>, Expr<X>>>(alloc, scope, tokens),
-        GenericsReader::LifetimeParam => found::<X, LifetimeParamOf<Attribute<X>>>(alloc, scope, tokens),
-        GenericsReader::TypeParam => found::<X, TypeParamOf<Attribute<X>, Expr<X>>>(alloc, scope, tokens),
-        GenericsReader::ConstParam => found::<X, ConstParamOf<TypeOf<Attribute<X>, Expr<X>>, Attribute<X>, Expr<X>>>(
+        GenericsReader::Param => found::<A, E, GenericParamOf<A, E>>(alloc, scope, tokens),
+        GenericsReader::LifetimeParam => found::<A, E, LifetimeParamOf<A>>(alloc, scope, tokens),
+        GenericsReader::TypeParam => found::<A, E, TypeParamOf<A, E>>(alloc, scope, tokens),
+        GenericsReader::ConstParam => found::<A, E, ConstParamOf<TypeOf<A, E>, A, E>>(
             alloc, scope, tokens,
         ),
-        GenericsReader::BoundLifetimes => found::<X, BoundLifetimesOf<GenericParamOf<Attribute<X>, Expr<X>>>>(
+        GenericsReader::BoundLifetimes => found::<A, E, BoundLifetimesOf<GenericParamOf<A, E>>>(
             alloc, scope, tokens,
         ),
-        GenericsReader::OptionalBoundLifetimes => found_with::<X, _>(
+        GenericsReader::OptionalBoundLifetimes => found_with::<A, E, _>(
             alloc,
-            ParseOptionalLifetimesOf::<Attribute<X>, Expr<X>>::new(),
+            ParseOptionalLifetimesOf::<A, E>::new(),
             scope,
             tokens,
         ),
-        GenericsReader::Bound => found::<X, TypeParamBoundOf<Attribute<X>, Expr<X>>>(alloc, scope, tokens),
-        GenericsReader::TraitBound => found::<X, TraitBoundOf<Attribute<X>, Expr<X>>>(alloc, scope, tokens),
-        GenericsReader::Capture => found::<X, PreciseCapture>(alloc, scope, tokens),
-        GenericsReader::Captured => found::<X, CapturedParam>(alloc, scope, tokens),
-        GenericsReader::Declared => found::<X, GenericsOf<Attribute<X>, Expr<X>>>(alloc, scope, tokens),
-        GenericsReader::ImplGenerics => found::<X, GenericsOf<Attribute<X>, Expr<X>>>(alloc, scope, tokens),
-        GenericsReader::TypeGenerics => found::<X, GenericsOf<Attribute<X>, Expr<X>>>(alloc, scope, tokens),
-        GenericsReader::Turbofish => found::<X, GenericsOf<Attribute<X>, Expr<X>>>(alloc, scope, tokens),
-        GenericsReader::WhereClause => found::<X, WhereClauseOf<Attribute<X>, Expr<X>>>(alloc, scope, tokens),
-        GenericsReader::OptionalWhereClause => found_with::<X, _>(
+        GenericsReader::Bound => found::<A, E, TypeParamBoundOf<A, E>>(alloc, scope, tokens),
+        GenericsReader::TraitBound => found::<A, E, TraitBoundOf<A, E>>(alloc, scope, tokens),
+        GenericsReader::Capture => found::<A, E, PreciseCapture>(alloc, scope, tokens),
+        GenericsReader::Captured => found::<A, E, CapturedParam>(alloc, scope, tokens),
+        GenericsReader::Declared => found::<A, E, GenericsOf<A, E>>(alloc, scope, tokens),
+        GenericsReader::ImplGenerics => found::<A, E, GenericsOf<A, E>>(alloc, scope, tokens),
+        GenericsReader::TypeGenerics => found::<A, E, GenericsOf<A, E>>(alloc, scope, tokens),
+        GenericsReader::Turbofish => found::<A, E, GenericsOf<A, E>>(alloc, scope, tokens),
+        GenericsReader::WhereClause => found::<A, E, WhereClauseOf<A, E>>(alloc, scope, tokens),
+        GenericsReader::OptionalWhereClause => found_with::<A, E, _>(
             alloc,
-            ParseOptionalWhereOf::<Attribute<X>, Expr<X>>::new(),
+            ParseOptionalWhereOf::<A, E>::new(),
             scope,
             tokens,
         ),
-        GenericsReader::Predicate => found::<X, WherePredicateOf<Attribute<X>, Expr<X>>>(alloc, scope, tokens),
+        GenericsReader::Predicate => found::<A, E, WherePredicateOf<A, E>>(alloc, scope, tokens),
     }
 }
 
 // ---- structs
 
 /// The same of a struct.
-fn nodes_of_struct<X: Subtree>(
+fn nodes_of_struct<A: Attributes + ToTokens + Parts, E: Value + ToTokens>(
     alloc: Global,
     scope: Span,
     tokens: TokenStream,
 ) -> Result<Items<NodeAt>, Error>
     ensures { spec.Has
-        (Gives (parts.item (given.attributes X.Subtree) (given.expressions X.Subtree)).grammar.reader)
-        (Fails (parts.item (given.attributes X.Subtree) (given.expressions X.Subtree)).grammar.reader)
-        (Headline (parts.item (given.attributes X.Subtree) (given.expressions X.Subtree)).grammar)
-        (λ a. places.all X.prints (visits.item a)) scope (toks tokens) result }
+        (Gives (parts.item A.Attributes E.Value).grammar.reader)
+        (Fails (parts.item A.Attributes E.Value).grammar.reader)
+        (Headline (parts.item A.Attributes E.Value).grammar)
+        (λ a. places.all (places.shown A.print E.print A.shown E.values) A.parts (visits.item a)) scope (toks tokens) result }
 {
     let item = taken(
         alloc,
-        ByParse::<StructItemOf<Attribute<X>, Expr<X>>>::new(),
+        ByParse::<StructItemOf<A, E>>::new(),
         scope,
         tokens,
     )?;
-    Ok(places_of_struct::<X>(alloc, &item)?)
+    Ok(places_of_struct(alloc, &item)?)
 }
 
-fn places_of_struct<X: Subtree>(
+fn places_of_struct<A: Attributes + ToTokens + Parts, E: Value + ToTokens>(
     alloc: Global,
-    item: &StructItemOf<Attribute<X>, Expr<X>>,
+    item: &StructItemOf<A, E>,
 ) -> Result<Items<NodeAt>, AllocError>
-    ensures { IfOk result (λ it. it ≡ places.all X.prints (visits.item item.now)) }
+    ensures { IfOk result (λ it. it ≡ places.all (places.shown A.print E.print A.shown E.values) A.parts (visits.item item.now)) }
 {
     let mut found = Items::new(alloc);
     item.attrs.add_nodes(&mut found)?;
     item.generics.add_nodes(&mut found)?;
     item.where_clause.add_nodes(&mut found)?;
-    add_fields::<X>(&item.body, &mut found)?;
-    places::<X>(alloc, &found)
+    add_body(&item.body, &mut found)?;
+    places(alloc, &found)
 }
 
-/// The attributes and the type of each field.
-#[tactic(auto, using(syn_walk::proofs::Walks::walks))]
-fn add_fields<'a, X>(
-    body: &'a ItemBodyOf<Attribute<X>, Expr<X>>,
-    out: &mut Items<NodeOf<'a, Attribute<X>, Expr<X>>>,
+/// What the body of a struct holds.
+fn add_body<'a, A, E>(
+    body: &'a ItemBodyOf<A, E>,
+    out: &mut Items<NodeOf<'a, A, E>>,
 ) -> Result<(), AllocError>
     ensures { OnOk result (seen out.new ≡ seen out.old ++ visits.fields body.now) }
 {
     match body {
         BodyOf::Unit(_) => Ok(()),
-        BodyOf::Named(_, fields) => {
-            for field in fields.values() {
-                field.attrs.add_nodes(out)?;
-                field.ty.add_nodes(out)?;
-            }
-            Ok(())
-        }
+        BodyOf::Named(_, fields) => add_fields(fields, out),
     }
+}
+
+/// The attributes and the type of each field.
+#[tactic(auto, using(syn_walk::proofs::Walks::walks))]
+fn add_fields<'a, A, E>(
+    fields: &'a Punctuated<ItemFieldOf<A, E>, Comma>,
+    out: &mut Items<NodeOf<'a, A, E>>,
+) -> Result<(), AllocError>
+    ensures { OnOk result (seen out.new ≡ seen out.old ++ each visits.field fields.now.0) }
+{
+    for field in fields.values() {
+        field.attrs.add_nodes(out)?;
+        field.ty.add_nodes(out)?;
+    }
+    Ok(())
 }
 
 // ---- patterns
@@ -342,7 +369,7 @@ fn nodes_of_patterns<X: Subtree>(
     scope: Span,
     tokens: TokenStream,
 ) -> Result<Items<NodeAt>, Error>
-    ensures { spec.Finds (run.patterns_category X.Subtree reader) (λ a. places.all X.prints (visits.of_patterns reader a)) scope
+    ensures { spec.Finds (run.patterns_category X.Subtree reader) (λ a. places.found X.prints (visits.of_patterns reader a)) scope
         (toks tokens) result }
 {
     let parser: PatternNodes<X> = PatternNodes {
@@ -364,7 +391,7 @@ impl<X: Subtree> Parser for PatternNodes<X> {
 
     ghost can_parse = { λ _. Unit {0} };
 
-    ghost reads = { λ p. spec.Gets (run.patterns_category X.Subtree p.reader).reader (λ a. places.all X.prints (visits.of_patterns p.reader a)) };
+    ghost reads = { λ p. spec.Gets (run.patterns_category X.Subtree p.reader).reader (λ a. places.found X.prints (visits.of_patterns p.reader a)) };
 
     ghost refuses = { λ p. Fails (run.patterns_category X.Subtree p.reader).reader };
 
@@ -380,7 +407,7 @@ fn next_nodes<X: Subtree>(
     input: &mut ParseStream<'_>,
 ) -> Result<Items<NodeAt>, Error>
     ensures found { Parsed
-        (spec.Gets (run.patterns_category X.Subtree reader).reader (λ a. places.all X.prints (visits.of_patterns reader a)) input.old)
+        (spec.Gets (run.patterns_category X.Subtree reader).reader (λ a. places.found X.prints (visits.of_patterns reader a)) input.old)
         (Fails (run.patterns_category X.Subtree reader).reader input.old) result input.new }
     ensures within { Follows input.old input.new }
 {
@@ -413,13 +440,13 @@ fn nodes_of_pat<
     place: PatPlace,
 ) -> Result<Items<NodeAt>, Error>
     ensures found { Parsed (spec.Gets (knot.pat X.reads (named Q.reads G.is_absent) place)
-        (λ a. places.all X.prints (patterns.pat Q.names T.visits a)) input.old)
+        (λ a. places.found X.prints (patterns.pat Q.names T.visits a)) input.old)
         (Fails {A = pats.PatOver X G Q T} (knot.pat X.reads (named Q.reads G.is_absent) place) input.old)
         result input.new }
     ensures within { Follows input.old input.new }
 {
     let pat = parse_pat::<X, G, Q, T>(alloc, of, input, place)?;
-    Ok(places_of::<X, PatOver<X, G, Q, T>>(alloc, pat.get())?)
+    Ok(places_of::<Attribute<X>, Expr<X>, PatOver<X, G, Q, T>>(alloc, pat.get())?)
 }
 
 /// Reads a pattern with a guard that may follow, and answers its nodes.
@@ -435,13 +462,13 @@ fn nodes_of_guarded<
     input: &mut ParseStream<'_>,
 ) -> Result<Items<NodeAt>, Error>
     ensures found { Parsed (spec.Gets (knot.guarded X.reads (named Q.reads G.is_absent))
-        (λ a. places.all X.prints (patterns.pat Q.names T.visits a)) input.old)
+        (λ a. places.found X.prints (patterns.pat Q.names T.visits a)) input.old)
         (Fails {A = pats.PatOver X G Q T} (knot.guarded X.reads (named Q.reads G.is_absent)) input.old)
         result input.new }
     ensures within { Follows input.old input.new }
 {
     let pat = Boxed::new(alloc, parse_guarded::<X, G, Q, T>(alloc, input)?)?;
-    Ok(places_of::<X, PatOver<X, G, Q, T>>(alloc, pat.get())?)
+    Ok(places_of::<Attribute<X>, Expr<X>, PatOver<X, G, Q, T>>(alloc, pat.get())?)
 }
 
 /// Reads a pattern with its type, and answers its nodes.
@@ -457,10 +484,10 @@ fn nodes_of_typed<
     input: &mut ParseStream<'_>,
 ) -> Result<Items<NodeAt>, Error>
     ensures found { Parsed (spec.Gets (knot.typed_over X.reads (named Q.reads G.is_absent) (T.read Plus))
-        (λ a. places.all X.prints (patterns.typed Q.names T.visits a)) input.old)
+        (λ a. places.found X.prints (patterns.typed Q.names T.visits a)) input.old)
         (Fails (knot.typed_over X.reads (named Q.reads G.is_absent) (T.read Plus)) input.old) result input.new }
     ensures within { Follows input.old input.new }
 {
     let pat = Boxed::new(alloc, parse_typed::<X, G, Q, T>(alloc, input)?)?;
-    Ok(places_of::<X, TypedOver<X, G, Q, T>>(alloc, pat.get())?)
+    Ok(places_of::<Attribute<X>, Expr<X>, TypedOver<X, G, Q, T>>(alloc, pat.get())?)
 }
