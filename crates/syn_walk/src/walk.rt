@@ -129,6 +129,7 @@ impl<A, E> Walk<A, E> for Items<A> {
 impl<A, E, T: Walk<A, E>> Walk<A, E> for Option<T> {
     ghost visits = { optional T.visits };
 
+    #[tactic(auto, using(crate::proofs::Walks::walks))]
     fn add_nodes<'a>(&'a self, out: &mut Items<NodeOf<'a, A, E>>) -> Result<(), AllocError> {
         match self {
             None => Ok(()),

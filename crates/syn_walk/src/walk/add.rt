@@ -554,6 +554,7 @@ pub(crate) fn add_attributes<'a, A, E>(
     Ok(())
 }
 
+#[tactic(auto, using(crate::proofs::Walks::walks))]
 fn add_variadic<'a, A, E>(
     variadic: &'a Option<FnPtrVariadicOf<A>>,
     out: &mut Items<NodeOf<'a, A, E>>,

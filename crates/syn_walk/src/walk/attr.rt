@@ -16,6 +16,7 @@ use token_core::Items;
 impl<X> Walk<Attribute<X>, Expr<X>> for Attribute<X> {
     ghost visits = { nodes.attribute };
 
+    #[tactic(auto, using(crate::proofs::Walks::walks))]
     fn add_nodes<'a>(
         &'a self,
         out: &mut Items<NodeOf<'a, Attribute<X>, Expr<X>>>,

@@ -158,6 +158,7 @@ impl<A, E> Walk<A, E> for NamedArgOf<TypeOf<A, E>, A> {
 impl<A, E> Walk<A, E> for Abi {
     ghost visits = { λ _. [] };
 
+    #[tactic(auto, using(crate::proofs::Walks::walks))]
     fn add_nodes<'a>(&'a self, _out: &mut Items<NodeOf<'a, A, E>>) -> Result<(), AllocError> {
         Ok(())
     }
@@ -167,6 +168,7 @@ impl<A, E> Walk<A, E> for Abi {
 impl<A, E> Walk<A, E> for PointerMutability {
     ghost visits = { λ _. [] };
 
+    #[tactic(auto, using(crate::proofs::Walks::walks))]
     fn add_nodes<'a>(&'a self, _out: &mut Items<NodeOf<'a, A, E>>) -> Result<(), AllocError> {
         Ok(())
     }
