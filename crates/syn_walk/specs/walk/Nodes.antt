@@ -70,6 +70,11 @@ saw (n.Binding i r m) = a_binding i.now r m
 abbrev pub seen : {A E : Type 0} → List (NodeOf A E) → Visits A E
 seen l = map saw l
 
+-- how many segments are left before the `>` of a path that a type qualifies, behind one
+abbrev pub fewer : Option ℕ → Option ℕ
+fewer None = None
+fewer (Some left) = if left == 0 then None else Some (left - 1)
+
 -- one layer of a tree, each tree within beside what is in it
 abbrev pub With : Family → Type 0 → Type 0 → Type 0
 With F A E =
@@ -146,11 +151,6 @@ module _ {A E : Type 0} where
   abbrev pub of_item : Path A E → ℕ → Option ℕ → Visits A E
   of_item p n None = []
   of_item p n (Some left) = if left == 0 then an_item_path p n ∷ [] else []
-
-  -- how many are left before the `>` behind a segment
-  abbrev pub fewer : Option ℕ → Option ℕ
-  fewer None = None
-  fewer (Some left) = if left == 0 then None else Some (left - 1)
 
   -- what is in the arguments of each segment, and the segments after the `>` before what is in theirs
   abbrev pub segments_by : {G : Type 0} → (G → Visits A E) → Path A E → ℕ → Option ℕ → List (PathSegmentOf G) → Visits A E
