@@ -23,6 +23,8 @@ mod core_tests;
 #[cfg(test)]
 mod cursor_tests;
 #[cfg(test)]
+mod depth_tests;
+#[cfg(test)]
 mod derive_head;
 #[cfg(test)]
 mod derive_head_tests;

@@ -8,7 +8,8 @@
              of the library itself, which other languages call, take no NULL at all.)
    Overlap   `out` and the report share no byte with each other or with what else the call is given. What is read may overlap.
    Threads   Calls share nothing: any number of threads may call at once, each with an `out` and a report of its own.
-   Stack     A call takes that of its thread, the more the deeper its text nests: README.md says how deep (Limits).
+   Stack     A call takes that of its thread, the more the deeper its text nests: so many levels as KULOJENTA_LIMIT fit in 2 MB. With a higher limit the
+             caller sees to the stack: README.md says how deep (Limits).
    Memory    comes from malloc and realloc and goes to free, of one allocator that aligns blocks as C wants it, and all is given back when a call returns.
              Where there is none, a call says so.
    Signals   No call is made from a signal handler, or in the forked child of a process with threads.
@@ -79,6 +80,9 @@ enum kulojenta_kind {
     KULOJENTA_NESTED_TOO_DEEP = 50                /* a text is nested deeper than its limit */
 };
 
+/* How many levels a text may go down where its caller knows no better: so many fit in a stack of 2 MB. Code as it is written goes down fewer than 30. */
+enum { KULOJENTA_LIMIT = 128 };
+
 typedef struct {
     size_t bytes;  /* how long the text is: so many bytes were written, or are wanted */
     uint32_t kind; /* why there is none, a kulojenta_kind */
@@ -87,8 +91,9 @@ typedef struct {
 } kulojenta_report;
 
 /* Reads all of a text by the reader of this name (docs/READERS.txt), where all tokens stand for an expression, and writes the text of the print of what
-   was read to out, or why there is none. */
-uint32_t kulojenta_read(const uint8_t *reader, size_t reader_len, const uint8_t *text, size_t text_len, uint8_t *out, size_t out_len,
+   was read to out, or why there is none. A text that goes down more levels than the limit is refused as nested too deep, at the first token that passes it:
+   a group takes a level, an open `<` three, a `&` one, and so on (docs/TEXT.md). A comment of documentation is read as the attribute that it stands for. */
+uint32_t kulojenta_read(const uint8_t *reader, size_t reader_len, const uint8_t *text, size_t text_len, size_t limit, uint8_t *out, size_t out_len,
                         kulojenta_report *report);
 
 /* Writes `NAME:LINE:COLUMN: MESSAGE`, the line of the text, and marks under the place from start to end, to out. */
@@ -112,13 +117,13 @@ static inline const uint8_t *kulojenta_given(const uint8_t *at) {
 
 static inline uint8_t *kulojenta_room(uint8_t *at, uint8_t *none) { return at == NULL ? none : at; }
 
-static inline uint32_t kulojenta_read_or_null(const uint8_t *reader, size_t reader_len, const uint8_t *text, size_t text_len, uint8_t *out, size_t out_len,
-                                              kulojenta_report *report) {
+static inline uint32_t kulojenta_read_or_null(const uint8_t *reader, size_t reader_len, const uint8_t *text, size_t text_len, size_t limit, uint8_t *out,
+                                              size_t out_len, kulojenta_report *report) {
     uint8_t none = 0;
     if (report == NULL || kulojenta_lacks(reader, reader_len) || kulojenta_lacks(text, text_len) || kulojenta_lacks(out, out_len)) {
         return KULOJENTA_NULL;
     }
-    return kulojenta_read(kulojenta_given(reader), reader_len, kulojenta_given(text), text_len, kulojenta_room(out, &none), out_len, report);
+    return kulojenta_read(kulojenta_given(reader), reader_len, kulojenta_given(text), text_len, limit, kulojenta_room(out, &none), out_len, report);
 }
 
 static inline uint32_t kulojenta_note_or_null(const uint8_t *name, size_t name_len, const uint8_t *text, size_t text_len, const uint8_t *message,

@@ -14,7 +14,17 @@ static const uint8_t *bytes(const char *text) { return (const uint8_t *)text; }
 
 static uint32_t reads(const char *reader, const char *text, size_t room) {
     memset(out, '.', sizeof out);
-    return kulojenta_read(bytes(reader), strlen(reader), bytes(text), strlen(text), out, room, &report);
+    return kulojenta_read(bytes(reader), strlen(reader), bytes(text), strlen(text), KULOJENTA_LIMIT, out, room, &report);
+}
+
+/* A type in so many parentheses. */
+static uint32_t reads_within(size_t levels, size_t limit) {
+    static uint8_t text[2001];
+    memset(text, '(', levels);
+    text[levels] = 'A';
+    memset(text + levels + 1, ')', levels);
+    memset(out, '.', sizeof out);
+    return kulojenta_read(bytes("Type"), 4, text, 2 * levels + 1, limit, out, sizeof out, &report);
 }
 
 static uint32_t notes(const char *text, const char *message, size_t start, size_t end) {
@@ -52,18 +62,20 @@ static int is_null(uint32_t status) { return status == KULOJENTA_NULL && out[0] 
 
 static int null_pointers(void) {
     int wrong = 0;
-    wrong += is(kulojenta_read(bytes("Type"), 4, bytes("A<B>"), 4, NULL, 0, &report) == KULOJENTA_ROOM_IS_SHORT && report.bytes == 7, "out NULL, for its length");
+    wrong += is(kulojenta_read(bytes("Type"), 4, bytes("A<B>"), 4, KULOJENTA_LIMIT, NULL, 0, &report) == KULOJENTA_ROOM_IS_SHORT && report.bytes == 7,
+                "out NULL, for its length");
     wrong += is(kulojenta_note(bytes("a"), 1, bytes("b"), 1, bytes("c"), 1, 0, 1, NULL, 0, &report) == KULOJENTA_ROOM_IS_SHORT, "the same of a note");
     wrong += is(kulojenta_reader(0, NULL, 0, &report) == KULOJENTA_ROOM_IS_SHORT && report.bytes == 5, "the same of a name");
     memset(out, '.', sizeof out);
-    wrong += is(kulojenta_read(bytes("Generics"), 8, NULL, 0, out, 9, &report) == KULOJENTA_SHOWN && says(""), "a text NULL that is empty");
-    wrong += is(kulojenta_read(NULL, 0, NULL, 0, out, 99, &report) == KULOJENTA_UNKNOWN_READER && says("unknown reader"), "a reader NULL that is empty");
+    wrong += is(kulojenta_read(bytes("Generics"), 8, NULL, 0, KULOJENTA_LIMIT, out, 9, &report) == KULOJENTA_SHOWN && says(""), "a text NULL that is empty");
+    wrong += is(kulojenta_read(NULL, 0, NULL, 0, KULOJENTA_LIMIT, out, 99, &report) == KULOJENTA_UNKNOWN_READER && says("unknown reader"),
+                "a reader NULL that is empty");
     memset(out, '.', sizeof out);
     report.bytes = 99;
-    wrong += is(is_null(kulojenta_read(bytes("Type"), 4, bytes("A"), 1, out, 9, NULL)), "a report NULL");
-    wrong += is(is_null(kulojenta_read(bytes("Type"), 4, bytes("A"), 1, NULL, 9, &report)), "out NULL");
-    wrong += is(is_null(kulojenta_read(bytes("Type"), 4, NULL, 1, out, 9, &report)), "a text NULL");
-    wrong += is(is_null(kulojenta_read(NULL, 4, bytes("A"), 1, out, 9, &report)), "a reader NULL");
+    wrong += is(is_null(kulojenta_read(bytes("Type"), 4, bytes("A"), 1, KULOJENTA_LIMIT, out, 9, NULL)), "a report NULL");
+    wrong += is(is_null(kulojenta_read(bytes("Type"), 4, bytes("A"), 1, KULOJENTA_LIMIT, NULL, 9, &report)), "out NULL");
+    wrong += is(is_null(kulojenta_read(bytes("Type"), 4, NULL, 1, KULOJENTA_LIMIT, out, 9, &report)), "a text NULL");
+    wrong += is(is_null(kulojenta_read(NULL, 4, bytes("A"), 1, KULOJENTA_LIMIT, out, 9, &report)), "a reader NULL");
     wrong += is(is_null(kulojenta_note(NULL, 1, bytes("b"), 1, bytes("c"), 1, 0, 1, out, 9, &report)), "a name NULL");
     wrong += is(is_null(kulojenta_note(bytes("a"), 1, NULL, 1, bytes("c"), 1, 0, 1, out, 9, &report)), "a note's text NULL");
     wrong += is(is_null(kulojenta_note(bytes("a"), 1, bytes("b"), 1, NULL, 1, 0, 1, out, 9, &report)), "a message NULL");
@@ -93,7 +105,7 @@ static void *reads_on(void *wrong) {
         uint8_t own[128];
         kulojenta_report told;
         const char *reader = TEXTS[i % texts].reader, *text = TEXTS[i % texts].text, *said = TEXTS[i % texts].said;
-        uint32_t status = kulojenta_read(bytes(reader), strlen(reader), bytes(text), strlen(text), own, sizeof own, &told);
+        uint32_t status = kulojenta_read(bytes(reader), strlen(reader), bytes(text), strlen(text), KULOJENTA_LIMIT, own, sizeof own, &told);
         *(int *)wrong += status != TEXTS[i % texts].status || told.bytes != strlen(said) || memcmp(own, said, told.bytes) != 0;
     }
     return NULL;
@@ -129,6 +141,11 @@ int main(void) {
     wrong += is(reads("Foo", "m!", 256) == KULOJENTA_UNKNOWN_READER && says("unknown reader") && at(KULOJENTA_NO_READER, 0, 0), "no reader");
     wrong += is(reads("\xff", "m!", 256) == KULOJENTA_UNKNOWN_READER && says("unknown reader"), "no name");
     wrong += is(reads("Macro", "m!(\xff)", 256) == KULOJENTA_REFUSED && says("input is not UTF-8") && at(KULOJENTA_NOT_UTF8, 0, 0), "no text");
+    wrong += is(reads_within(2, 2) == KULOJENTA_SHOWN && says("((A))"), "a text at the limit");
+    wrong += is(reads_within(2, 1) == KULOJENTA_REFUSED && says("nested too deep") && at(KULOJENTA_NESTED_TOO_DEEP, 1, 2), "a text above the limit");
+    wrong += is(reads_within(1000, KULOJENTA_LIMIT) == KULOJENTA_REFUSED && at(KULOJENTA_NESTED_TOO_DEEP, 128, 129), "a deep text");
+    wrong += is(reads("Attribute::parse_outer", "/// A.\n#[b]", 256) == KULOJENTA_SHOWN && says("# [doc = \" A.\"] # [b]"), "documentation");
+    wrong += is(reads("Type", "/// A.\r \nB", 256) == KULOJENTA_REFUSED && at(KULOJENTA_UNKNOWN_TOKEN, 0, 1), "a carriage return in it");
     wrong += is(notes("a\nb c\n", "unexpected token", 4, 5) == KULOJENTA_SHOWN && says("a.rs:2:3: unexpected token\nb c\n  ^"), "a note");
     wrong += is(names(0, 256) == KULOJENTA_SHOWN && says("Macro") && at(KULOJENTA_NONE, 0, 0), "the first reader");
     wrong += is(names(0, 4) == KULOJENTA_ROOM_IS_SHORT && report.bytes == 5 && out[0] == '.', "its name, which is wanted");

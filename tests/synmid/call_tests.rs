@@ -11,11 +11,12 @@ use std::test::Fail;
 use token_core::ErrorKind;
 
 const ROOM: usize = 64;
+const LIMIT: usize = 4;
 
 /// A call with so much room, and the whole room after it, which held dots.
 fn called(alloc: Global, name: &[u8], text: &[u8], size: usize) -> (Call, [u8; ROOM]) {
     let mut room = [b'.'; ROOM];
-    let call = read_into::<Sample>(alloc, name, text, &mut room[..size]);
+    let call = read_into::<Sample>(alloc, name, text, LIMIT, &mut room[..size]);
     (call, room)
 }
 
@@ -31,6 +32,9 @@ fn texts_that_fit_are_written(rt: HostRuntime) {
         ("Type", "Vec<T>", 9, (0, 9, 0, 0, 0), "Vec < T >"),
         ("Attribute::parse_outer", "", 0, (0, 0, 0, 0, 0), ""),
         ("Type", "a b", ROOM, (1, 16, 18, 2, 3), "unexpected token"),
+        ("Type", "&Vec<T>", ROOM, (0, 11, 0, 0, 0), "& Vec < T >"),
+        ("Type", "[Vec<&T>]", ROOM, (1, 15, 50, 5, 6), "nested too deep"),
+        ("Attribute::parse_outer", "/// A.", ROOM, (0, 15, 0, 0, 0), "# [doc = \" A.\"]"),
         ("Foo", "a b", ROOM, (2, 14, 1, 0, 0), "unknown reader"),
     ] {
         let (call, room) = called(rt.alloc(), name.as_bytes(), text.as_bytes(), size);

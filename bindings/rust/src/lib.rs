@@ -11,8 +11,8 @@
 //! assert_eq!((refusal.start(), refusal.end()), (9, 10));
 //! ```
 //!
-//! Types in types take calls within calls, so that deep nesting takes stack: see *Limits* in the README of the repository. A thread of Rust has 2 MB
-//! unless it asks for more.
+//! Types in types take calls within calls, so that deep nesting takes stack. [`read`] refuses what goes down more than [`LIMIT`] levels, which fits in the
+//! 2 MB that a thread of Rust has unless it asks for more; [`read_within`] takes another limit.
 //!
 //! Calls share nothing, so that any number of threads may make them at once; a [`Refusal`] is `Send` and `Sync`. Memory comes from the C library's `malloc`,
 //! whatever the program's global allocator is.
@@ -40,12 +40,17 @@ type Call<'a> = &'a dyn Fn(&mut [u8], &mut Report) -> u32;
 const SHOWN: u32 = 0;
 const ROOM_IS_SHORT: u32 = 3;
 
+/// How many levels a text may go down for [`read`]: a group takes one, an open `<` three, a `&` one, and so on. Code as it is written goes down fewer
+/// than 30.
+pub const LIMIT: usize = 128;
+
 extern "C" {
     fn kulojenta_read(
         reader: *const u8,
         reader_len: usize,
         text: *const u8,
         text_len: usize,
+        limit: usize,
         out: *mut u8,
         out_len: usize,
         report: *mut Report,
@@ -151,13 +156,22 @@ impl fmt::Display for Refusal {
 impl Error for Refusal {}
 
 /// Reads all of a text by the reader of this name (`readers` lists all), and answers the text of the print of what was read. All tokens stand for an
-/// expression.
+/// expression, and a comment of documentation for its attribute.
 ///
 /// # Errors
 ///
-/// The text is refused where it is not of the reader's form: then the refusal says why, and points to the place. It is refused too where there is no
-/// reader of that name, and where memory runs out.
+/// The text is refused where it is not of the reader's form: then the refusal says why, and points to the place. It is refused too where it goes down more
+/// than [`LIMIT`] levels, at the first token that does, where there is no reader of that name, and where memory runs out.
 pub fn read(reader: &str, text: &str) -> Result<String, Refusal> {
+    read_within(reader, text, LIMIT)
+}
+
+/// The same within another limit. Where it is above [`LIMIT`] the caller sees to the stack: without enough of it the process ends.
+///
+/// # Errors
+///
+/// As of [`read`].
+pub fn read_within(reader: &str, text: &str, limit: usize) -> Result<String, Refusal> {
     let call = |out: &mut [u8], report: &mut Report| {
         // (each slice lives as long as the call, which reads the first two and writes the others)
         unsafe {
@@ -166,6 +180,7 @@ pub fn read(reader: &str, text: &str) -> Result<String, Refusal> {
                 reader.len(),
                 text.as_ptr(),
                 text.len(),
+                limit,
                 out.as_mut_ptr(),
                 out.len(),
                 report,

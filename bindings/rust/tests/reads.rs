@@ -1,6 +1,6 @@
 //! What the readers answer through C.
 
-use kulojenta::{read, readers, Kind, Refusal};
+use kulojenta::{read, read_within, readers, Kind, Refusal, LIMIT};
 use std::thread;
 
 /// What was read, or the refusal with its place.
@@ -55,6 +55,97 @@ fn refusals_say_where() {
     }
     assert!(read("Foo", "a").unwrap_err().is_unknown_reader());
     assert!(!read("Type", "").unwrap_err().is_out_of_memory());
+}
+
+/// The forms of `checks/depth`, and one more: the reader, what is repeated before and after what stands in the middle, how many levels each takes, and
+/// how many the last one takes more.
+const FORMS: [(&str, &str, &str, &str, usize, usize); 19] = [
+    ("Type", "Vec<", "A", ">", 3, 0),
+    ("Type", "(", "A", ")", 1, 0),
+    ("Type", "&", "A", "", 1, 0),
+    ("Type", "[", "A", "]", 1, 0),
+    ("Pat::parse_multi", "(", "a", ")", 1, 0),
+    ("Pat::parse_multi", "&", "a", "", 1, 0),
+    ("Type", "(A, ", "A", ")", 1, 0),
+    ("Type", "*const ", "A", "", 1, 0),
+    ("Type", "fn(", "A", ")", 2, 0),
+    ("Type", "fn() -> ", "A", "", 2, 0),
+    ("Type", "dyn A<", "B", ">", 4, 0),
+    ("Type", "impl A<", "B", ">", 4, 0),
+    ("Type", "A<B = ", "A", ">", 3, 0),
+    ("Type", "A<B: C<", "A", ">>", 6, 0),
+    ("Type", "<", "A", " as B>::C", 3, 0),
+    ("Pat::parse_multi", "[", "a", "]", 1, 0),
+    ("Pat::parse_multi", "A(", "a", ")", 1, 0),
+    ("Pat::parse_multi", "a @ ", "a", "", 1, 0),
+    ("Type", "unsafe<'a> ", "A", "", 2, 3),
+];
+
+/// Whether so many of a form are too deep; fewer are read.
+fn is_too_deep(form: (&str, &str, &str, &str, usize, usize), count: usize) -> bool {
+    let (reader, before, within, after, ..) = form;
+    let text = before.repeat(count) + within + &after.repeat(count);
+    match read(reader, &text) {
+        Ok(_) => false,
+        Err(it) if it.kind() == Kind::NestedTooDeep => true,
+        Err(it) => panic!("{count} of {before}: {it}"),
+    }
+}
+
+/// Each form at the deepest that the limit lets pass is answered within 2 MB, and at the next level refused.
+#[test]
+fn deep_texts_are_refused() {
+    let try_all = || {
+        for form in FORMS {
+            let most = (LIMIT - form.5) / form.4;
+            for count in [most, most + 1, 200_000] {
+                assert_eq!(
+                    is_too_deep(form, count),
+                    count > most,
+                    "{count} of {}",
+                    form.1
+                );
+            }
+        }
+    };
+    let thread = thread::Builder::new().stack_size(2 << 20).spawn(try_all);
+    thread.unwrap().join().unwrap();
+}
+
+#[test]
+fn limits_are_the_callers() {
+    let refusal = read_within("Type", "Vec<(A)>", 3).unwrap_err();
+    assert_eq!(refusal.to_string(), "nested too deep");
+    assert_eq!((refusal.start(), refusal.end()), (4, 5));
+    assert!(read_within("Type", "Vec<(A)>", 4).is_ok());
+}
+
+#[test]
+fn documentation_is_read() {
+    for (reader, text, wanted) in [
+        (
+            "Attribute::parse_outer",
+            "/// A.\n#[b]",
+            "# [doc = \" A.\"] # [b]",
+        ),
+        (
+            "Attribute::parse_inner",
+            "//! \"A\"\n/*! B */",
+            "# ! [doc = \" \\\"A\\\"\"] # ! [doc = \" B \"]",
+        ),
+        ("Macro", "a!{/// A.\nb}", "a ! { # [doc = \" A.\"] b }"),
+        (
+            "Attribute::parse_outer",
+            "/// A.\r \n",
+            "unknown start of token at 0..1 (UnknownToken)",
+        ),
+    ] {
+        assert_eq!(said(reader, text), wanted, "{reader} of {text}");
+    }
+    // (the attribute takes the level of its group)
+    let refusal = read_within("Macro", "a!{/// A.\nb}", 1).unwrap_err();
+    assert_eq!((refusal.start(), refusal.end()), (3, 9));
+    assert!(read_within("Macro", "a!{/// A.\nb}", 2).is_ok());
 }
 
 #[test]

@@ -11,7 +11,7 @@ use syn_run::channel::{Plain, Source};
 use syn_run::complaint::complaint;
 use syn_run::fault::Fault;
 use syn_run::readers::Reader;
-use syn_run::run::read_text;
+use syn_run::run::{LIMIT, read_text_within};
 use syn_verbatim::expr::VerbatimExpr;
 
 /// The status where the command line is no text.
@@ -94,7 +94,7 @@ fn read<R: Source>(
             return Ok(ExitCode::from(fault.status()));
         }
     };
-    match read_text::<VerbatimExpr>(rt.alloc(), reader, text) {
+    match read_text_within::<VerbatimExpr>(rt.alloc(), reader, text, LIMIT) {
         Ok(shown) => Ok(write(rt, shown.as_str())),
         Err(refusal) => complain(rt, name, text, &Fault::from(refusal)),
     }

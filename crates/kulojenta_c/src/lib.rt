@@ -23,18 +23,22 @@ pub struct Report {
 }
 
 /// Reads all of a text by the reader of this name, over `VerbatimExpr`, and writes the text of the print of what was read to `out`, or why
-/// there is none. Answers the status.
+/// there is none. A text that nests deeper than `limit` is refused so. Answers the status.
 #[unsafe(no_mangle)]
 pub extern "C" fn kulojenta_read(
     alloc: Global,
     reader: &[u8],
     text: &[u8],
+    limit: usize,
     out: &mut [u8],
     report: &mut Report,
 ) -> u32
-    ensures { Reads (category verbatim) reader.now text.now out.old out.new (call_of result report.new) }
+    ensures { Reads limit (category verbatim) reader.now text.now out.old out.new (call_of result report.new) }
 {
-    told(read_into::<VerbatimExpr>(alloc, reader, text, out), report)
+    told(
+        read_into::<VerbatimExpr>(alloc, reader, text, limit, out),
+        report,
+    )
 }
 
 /// Writes the note for a message at a place of a text to `out`, or why there is none. Answers the status.

@@ -9,7 +9,9 @@ use Rattle.token_core.specs.Trees.{TokenStream, trees, row, toks}
 use Rattle.token_core.specs.Rebuilt.{Visible}
 use Rattle.token_core.specs.Refusal.{Refusal, out_of_memory}
 use Rattle.token_core.proofs.Rebuilds.{stream-trees}
-use Rattle.token_text.specs.Spelling.{Spells, Refused}
+use Rattle.token_text.specs.declared.piece.Docs.{Docs}
+use Rattle.token_text.specs.declared.piece.Docs.TheVariants.{Refuse}
+use Rattle.token_text.specs.Spelling.{SpellsWith, RefusedWith}
 use Rattle.token_text.specs.Printing.{text_of}
 use Rattle.syn_readers.specs.Readers.{Category, Reprints}
 use Rattle.syn_run.specs.Run.{Answer, Shows, shown, no_memory, not_text, line, IsTextOf, Refuses, not_utf8, no_list, no_tree, memory, RefusedFor, in_text, in_list, by_memory, Justified, JustifiedBy, AnswersBy, Accepts, AnswersTo, Replies, text_of_print, Ends}
@@ -19,25 +21,25 @@ use Rattle.syn_run.specs.Faults.{text, of_fault, of_kind, of_refusal, faulty, an
 
 -- ---- what a read of a text answers
 
-module _ {A S : Type 0} (C : Category A) (scope : Span) (input : Bytes) (bytes : S → Bytes) where
+module _ {A S : Type 0} (docs : Docs) (C : Category A) (scope : Span) (input : Bytes) (bytes : S → Bytes) where
   -- for want of memory alone
-  pub by_no_memory : (e : Refusal) → e.kind ≡ OutOfMemory → Replies C scope input bytes (Err e)
+  pub by_no_memory : (e : Refusal) → e.kind ≡ OutOfMemory → Replies docs C scope input bytes (Err e)
   by_no_memory e k = record { justified = by_memory e k; accepts = λ l a t v s. k }
 
   -- a text that is not read
-  pub of_unread : (e : Refusal) → (e ≡ out_of_memory) ⊎ Refused input e → ((l : List TokenTree) → Spells input l → e ≡ out_of_memory) → Replies C scope input bytes (Err e)
+  pub of_unread : (e : Refusal) → (e ≡ out_of_memory) ⊎ RefusedWith docs input e → ((l : List TokenTree) → SpellsWith docs input l → e ≡ out_of_memory) → Replies docs C scope input bytes (Err e)
   of_unread e (inl q) none = by_no_memory e (ap (λ x. x.kind) q)
   of_unread e (inr h) none = record { justified = in_text e h; accepts = λ l a t v s. ap (λ x. x.kind) (none l t.spells) }
 
   -- a text that is read
-  module _ (c : TokenStream) (is_text : IsTextOf input (trees c)) (only : (l : List TokenTree) → Spells input l → trees c ≡ l) where
+  module _ (c : TokenStream) (is_text : IsTextOf docs input (trees c)) (only : (l : List TokenTree) → SpellsWith docs input l → trees c ≡ l) where
     tokens : toks c ≡ row (trees c) done
     tokens = stream-trees c done
 
-    visible : (l : List TokenTree) → Spells input l → Visible (row l done) → Visible (row (trees c) done)
+    visible : (l : List TokenTree) → SpellsWith docs input l → Visible (row l done) → Visible (row (trees c) done)
     visible l t v = subst (λ z. Visible (row z done)) (sym (only l t)) v
 
-    clear : (l : List TokenTree) (a : A) → Spells input l → C.clear a (row l done) → C.clear a (row (trees c) done)
+    clear : (l : List TokenTree) (a : A) → SpellsWith docs input l → C.clear a (row l done) → C.clear a (row (trees c) done)
     clear l a t s = subst (λ z. C.clear a (row z done)) (sym (only l t)) s
 
     here : (r : Result TokenStream Refusal) → Reprints C scope (toks c) r → Reprints C scope (row (trees c) done) r
@@ -48,11 +50,11 @@ module _ {A S : Type 0} (C : Category A) (scope : Span) (input : Bytes) (bytes :
     forgetful OutOfMemory h = refl
     forgetful _ h = absurd (h (λ q. cc))
 
-    refused : (k : ErrorKind) (e : Refusal) → e.kind ≡ k → (k ≢ OutOfMemory → RefusedFor C scope input e) → RefusedFor C scope input e
+    refused : (k : ErrorKind) (e : Refusal) → e.kind ≡ k → (k ≢ OutOfMemory → RefusedFor docs C scope input e) → RefusedFor docs C scope input e
     refused OutOfMemory e q h = by_memory e q
     refused _ e q h = h (λ w. cc)
 
-    pub of_refused : (e : Refusal) → Reprints C scope (toks c) (Err e) → Replies C scope input bytes (Err e)
+    pub of_refused : (e : Refusal) → Reprints C scope (toks c) (Err e) → Replies docs C scope input bytes (Err e)
     of_refused e h =
         let q = here (Err e) h in
         record {
@@ -60,7 +62,7 @@ module _ {A S : Type 0} (C : Category A) (scope : Span) (input : Bytes) (bytes :
           accepts = λ l a t v s. forgetful e.kind (λ k. C.refused (row (trees c) done) a (q k).1 (visible l t.spells v) (clear l a t.spells s));
         }
 
-    pub of_answer : (p : TokenStream) (text : S) → Reprints C scope (toks c) (Ok p) → bytes text ≡ text_of p → Replies C scope input bytes (Ok text)
+    pub of_answer : (p : TokenStream) (text : S) → Reprints C scope (toks c) (Ok p) → bytes text ≡ text_of p → Replies docs C scope input bytes (Ok text)
     of_answer p text h is =
         let q = here (Ok p) h in
         let e : bytes text ≡ text_of_print C q.0 = is ∙ ap text_of q.3 in
@@ -70,10 +72,10 @@ module _ {A S : Type 0} (C : Category A) (scope : Span) (input : Bytes) (bytes :
         }
 
   -- as bytes
-  pub reply-text : (s : S) (t : Bytes) → t ≡ bytes s → Replies C scope input bytes (Ok s) → Replies C scope input (λ (x : Bytes). x) (Ok t)
-  reply-text s t e h = record { justified = let P : Bytes → Type 0 = λ x. Shows C scope input x in subst P (sym e) h.justified; accepts = λ l a i v k. e ∙ h.accepts l a i v k }
+  pub reply-text : (s : S) (t : Bytes) → t ≡ bytes s → Replies docs C scope input bytes (Ok s) → Replies docs C scope input (λ (x : Bytes). x) (Ok t)
+  reply-text s t e h = record { justified = let P : Bytes → Type 0 = λ x. Shows docs C scope input x in subst P (sym e) h.justified; accepts = λ l a i v k. e ∙ h.accepts l a i v k }
 
-  pub reply-refusal : (e : Refusal) → Replies C scope input bytes (Err e) → Replies C scope input (λ (x : Bytes). x) (Err e)
+  pub reply-refusal : (e : Refusal) → Replies docs C scope input bytes (Err e) → Replies docs C scope input (λ (x : Bytes). x) (Err e)
   reply-refusal e h = record { justified = h.justified; accepts = h.accepts }
 
 -- ---- what a run says of it
@@ -84,7 +86,7 @@ module _ {A : Type 0} (C : Category A) (scope : Span) (input : Bytes) where
   said OutOfMemory e h = memory
   said _ e h = h (λ q. cc)
 
-  refused-said : (e : Refusal) → IsUtf8 input → RefusedFor C scope input e → Justified C scope input (of_fault (of_refusal e))
+  refused-said : (e : Refusal) → IsUtf8 input → RefusedFor Refuse C scope input e → Justified C scope input (of_fault (of_refusal e))
   refused-said _ utf8 (in_text e h) = said e.kind e (λ k. no_list e utf8 h)
   refused-said _ utf8 (in_list l e t w p) = said e.kind e (λ k. no_tree l e t w p)
   refused-said _ utf8 (by_memory e q) = let P : ErrorKind → Type 0 = λ k. Justified C scope input (of_fault (of_kind k e)) in subst P (sym q) memory
@@ -92,7 +94,7 @@ module _ {A : Type 0} (C : Category A) (scope : Span) (input : Bytes) where
   pub of_bytes : ¬ IsUtf8 input → AnswersTo C scope input not_text
   of_bytes h = record { justified = not_utf8 h; accepts = λ l a t v s. absurd (h t.utf8) }
 
-  pub of_reply : {S : Type 0} (bytes : S → Bytes) (r : Result S Refusal) → IsUtf8 input → Replies C scope input bytes r → AnswersTo C scope input (answer bytes (faulty r))
+  pub of_reply : {S : Type 0} (bytes : S → Bytes) (r : Result S Refusal) → IsUtf8 input → Replies Refuse C scope input bytes r → AnswersTo C scope input (answer bytes (faulty r))
   of_reply bytes (Ok s) utf8 h = record { justified = h.justified; accepts = λ l a t v s. inl (ap shown (h.accepts l a t v s)) }
   of_reply bytes (Err e) utf8 h = record { justified = refused-said e utf8 h.justified; accepts = λ l a t v s. inr (ap (λ k. of_fault (of_kind k e)) (h.accepts l a t v s)) }
 

@@ -4,13 +4,14 @@ use Rattle.token_core.specs.declared.error.ErrorKind.{ErrorKind}
 use Rattle.token_core.specs.declared.error.ErrorKind.TheVariants.{OutOfMemory, Expected, Unexpected, Custom, ExpectedDelimiter, ExpectedPathSegment, ExpectedPathIdent, ExpectedAttributeArguments, ExpectedParentheses, TokenInAttribute, ExpectedMetaArguments, ExpectedParenthesis, ExpectedMetaValue, ExpectedEquals, AttributeInAttribute, ExpectedNestedAttribute, LiteralInNestedAttribute, TokenInNestedAttribute, UnclosedDelimiter, UnexpectedClosingDelimiter, UnknownToken, UnterminatedToken, DocComment, MalformedNumber, BinderWithQuestion, GenericsOnWhere, CaptureNotAllowed, ConditionalConstNotAllowed, ConstNotAllowed, NoTraitInObject, NoTraitInImpl, RangeWithoutEnd, OpenRangeInSlice, BoundModifiersNotSupported, NestedTooDeep}
 use Rattle.token_core.specs.Toks.{Bytes}
 use Rattle.token_core.specs.Refusal.{Refusal}
+use Rattle.token_text.specs.declared.piece.Docs.TheVariants.{Read}
 use Rattle.token_text.specs.Note as note
 use Rattle.token_text.specs.Wholes.{text_end}
 use Rattle.syn_readers.specs.Readers.{Category}
 use Rattle.syn_run.specs.declared.call.Call.{Call}
 use Rattle.syn_run.specs.declared.readers.Reader.{Reader}
 use Rattle.syn_run.specs.Table.{named, name_at}
-use Rattle.syn_run.specs.Run.{Replies}
+use Rattle.syn_run.specs.Run.{RepliesWithin}
 
 -- the number of a kind
 unfoldable pub number : ErrorKind → ℕ
@@ -117,16 +118,16 @@ abbrev pub of_answer : Result Bytes Refusal → Came
 of_answer (Ok t) = told t
 of_answer (Err e) = refused e
 
--- what a reader, in the scope of the text's end, comes to
-abbrev pub Answers : {A : Type 0} → Category A → Bytes → Came → Type 0
-Answers C text came = (r : Result Bytes Refusal) × Replies C (text_end text) text (λ t. t) r × (came ≡ of_answer r)
+-- what a reader, within a limit and in the scope of the text's end, comes to, where comments of documentation are read
+abbrev pub Answers : {A : Type 0} → ℕ → Category A → Bytes → Came → Type 0
+Answers limit C text came = (r : Result Bytes Refusal) × RepliesWithin Read limit C (text_end text) text (λ t. t) r × (came ≡ of_answer r)
 
-abbrev pub Comes : {T : Reader → Type 0} → ((r : Reader) → Category (T r)) → Option Reader → Bytes → Came → Type 0
-Comes of None text came = came ≡ unknown
-Comes of (Some r) text came = (¬ IsUtf8 text × (came ≡ not_utf8)) ⊎ Answers (of r) text came
+abbrev pub Comes : {T : Reader → Type 0} → ℕ → ((r : Reader) → Category (T r)) → Option Reader → Bytes → Came → Type 0
+Comes limit of None text came = came ≡ unknown
+Comes limit of (Some r) text came = (¬ IsUtf8 text × (came ≡ not_utf8)) ⊎ Answers limit (of r) text came
 
-abbrev pub Reads : {T : Reader → Type 0} → ((r : Reader) → Category (T r)) → Bytes → Bytes → Bytes → Bytes → Call → Type 0
-Reads of name text = Calls (λ came. (¬ IsUtf8 name × (came ≡ unknown)) ⊎ Comes of (named name) text came) text
+abbrev pub Reads : {T : Reader → Type 0} → ℕ → ((r : Reader) → Category (T r)) → Bytes → Bytes → Bytes → Bytes → Call → Type 0
+Reads limit of name text = Calls (λ came. (¬ IsUtf8 name × (came ≡ unknown)) ⊎ Comes limit of (named name) text came) text
 
 -- ---- a note
 

@@ -7,7 +7,7 @@ ghost use Rattle.syn_run.specs.Table.{named};
 ghost use Rattle.syn_run.specs.declared.call.Call.{Call};
 
 use crate::readers::Reader;
-use crate::run::read_text;
+use crate::run::read_text_within;
 use crate::table::name_at;
 use std::alloc::Global;
 use syn_path::supplied::Subtree;
@@ -34,30 +34,48 @@ pub struct Call {
 }
 
 /// Reads all of a text by the reader of this name, over any supplied subtree, and writes the text of the print of what was read to the front
-/// of the room, or why there is none.
-pub fn read_into<X: Subtree>(alloc: Global, name: &[u8], text: &[u8], out: &mut [u8]) -> Call
-    ensures { spec.Reads (category X.Subtree) name.now text.now out.old out.new result }
+/// of the room, or why there is none. A text that nests deeper than the limit is refused so (`run::read_text_within`).
+pub fn read_into<X: Subtree>(
+    alloc: Global,
+    name: &[u8],
+    text: &[u8],
+    limit: usize,
+    out: &mut [u8],
+) -> Call
+    ensures { spec.Reads limit (category X.Subtree) name.now text.now out.old out.new result }
 {
     match str::from_utf8(name) {
-        Ok(name) => read_named::<X>(alloc, name, text, out),
+        Ok(name) => read_named::<X>(alloc, name, text, limit, out),
         Err(_) => tell("unknown reader", 2, 1, (0, 0), out),
     }
 }
 
-fn read_named<X: Subtree>(alloc: Global, name: &str, text: &[u8], out: &mut [u8]) -> Call
-    ensures { spec.Calls (spec.Comes (category X.Subtree) (named name.now) text.now) text.now out.old out.new result }
+fn read_named<X: Subtree>(
+    alloc: Global,
+    name: &str,
+    text: &[u8],
+    limit: usize,
+    out: &mut [u8],
+) -> Call
+    ensures { spec.Calls (spec.Comes limit (category X.Subtree) (named name.now) text.now) text.now out.old out.new result }
 {
     match (Reader::named(name), str::from_utf8(text)) {
-        (Some(reader), Ok(text)) => read_by::<X>(alloc, reader, text, out),
+        (Some(reader), Ok(text)) => read_by::<X>(alloc, reader, text, limit, out),
         (Some(_), Err(_)) => tell("input is not UTF-8", 1, 2, (0, 0), out),
         (None, _) => tell("unknown reader", 2, 1, (0, 0), out),
     }
 }
 
-fn read_by<X: Subtree>(alloc: Global, reader: Reader, text: &str, out: &mut [u8]) -> Call
-    ensures { spec.Calls (spec.Answers (category X.Subtree reader) text.now) text.now out.old out.new result }
+fn read_by<X: Subtree>(
+    alloc: Global,
+    reader: Reader,
+    text: &str,
+    limit: usize,
+    out: &mut [u8],
+) -> Call
+    ensures { spec.Calls (spec.Answers limit (category X.Subtree reader) text.now) text.now out.old out.new result }
 {
-    match read_text::<X>(alloc, reader, text) {
+    match read_text_within::<X>(alloc, reader, text, limit) {
         Ok(shown) => tell(shown.as_str(), 0, 0, (0, 0), out),
         Err(refusal) => {
             let kind = 16 + number(refusal.kind());

@@ -18,3 +18,4 @@ mod WholeLaws
 mod MovingLaws
 mod Escapes
 mod DocLaws
+mod DepthLaws

@@ -132,7 +132,7 @@ module _ (docs : Docs) where
     loop_stops : (s : Span) (b : List ℕ) (r : Refusal) → encode_utf8_all w ≡ b → s ≡ span (length text - length rest) (length text - length after) → act s b p x ≡ Err r → lexed_with docs text ≡ Err r
     loop_stops s b r same is a = known ∙ reads_refused (length text - length rest) x (chars rest) w (chars after) p r h (rw (place, ← is, same) a)
 
-  front_looked : (cs ds : Text) (p : Piece) → look docs cs ≡ Ok (p, ds) → front docs cs ≡ Ok (found p (upto cs ds) ds)
+  pub front_looked : (cs ds : Text) (p : Piece) → look docs cs ≡ Ok (p, ds) → front docs cs ≡ Ok (found p (upto cs ds) ds)
   unfolding front
   front_looked cs ds p h = ap (found_in cs) h
 

@@ -30,7 +30,7 @@ same_self delimiters.Brace = refl
 same_self delimiters.Bracket = refl
 same_self delimiters.None = refl
 
-same_is : (d e : Delimiter) → same d e ≡ true → d ≡ e
+pub same_is : (d e : Delimiter) → same d e ≡ true → d ≡ e
 unfolding same
 same_is d e h = same_true the_type (search rules) d e h
 

@@ -4,6 +4,7 @@ pub mod Literals
 pub mod Spelling
 pub mod Front
 pub mod Reading
+pub mod Depth
 pub mod Printing
 pub mod Wholes
 pub mod Strings

@@ -86,6 +86,7 @@ pub fn lex_documented(alloc: Global, text: &str) -> Result<TokenStream, Error>
     lex_with(alloc, text, Docs::Read)
 }
 
+/// Reads the tokens of a text as `lex` does, which refuses comments of documentation, or as `lex_documented`, which reads them.
 pub fn lex_with(alloc: Global, text: &str, docs: Docs) -> Result<TokenStream, Error>
     ensures read { IfOk result (λ s. SpellsWith docs text.now (trees s)) }
     ensures all { (l : List TokenTree) → SpellsWith docs text.now l →

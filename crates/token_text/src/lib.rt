@@ -3,6 +3,7 @@
 
 mod class;
 mod comment;
+mod depth;
 mod doc;
 mod escape;
 mod front;
@@ -19,8 +20,10 @@ mod string;
 mod whole;
 mod word;
 
-pub use lexer::{lex, lex_documented};
+pub use depth::check_text;
+pub use lexer::{lex, lex_documented, lex_with};
 pub use lit_str::{lit_str_value, read_lit_str, read_lit_str_with};
 pub use notes::{note, note_at, note_from, place_of};
+pub use piece::Docs;
 pub use printer::text_of;
 pub use whole::{read_str, read_str_documented, read_str_documented_with, read_str_with};

@@ -35,7 +35,7 @@ pub struct State {
 }
 
 /// The identifier of a lifetime, of its text.
-fn past_quote(text: &str) -> &str
+pub fn past_quote(text: &str) -> &str
     ensures { result.now ≡ pieces.past_quote text.now }
 {
     match text.strip_prefix('\'') {
