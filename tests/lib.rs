@@ -39,9 +39,13 @@ mod generics_tests;
 #[cfg(test)]
 mod group_tests;
 #[cfg(test)]
+mod json_tests;
+#[cfg(test)]
 mod left;
 #[cfg(test)]
 mod lexer_tests;
+#[cfg(test)]
+mod line_tests;
 #[cfg(test)]
 mod list_tests;
 #[cfg(test)]

@@ -3,7 +3,7 @@
 use std::alloc::Global;
 use std::test::Fail;
 use token_core::{Error, ErrorKind, Span};
-use token_text::{lex, note, note_at, note_from, place_of};
+use token_text::{lex, line_and_column, note, note_at, note_from, place_of, visible};
 
 #[test]
 fn notes(rt: HostRuntime) -> Result<(), Fail> {
@@ -142,5 +142,31 @@ fn memory_has_no_place(rt: HostRuntime) -> Result<(), Fail> {
     let e = Error::out_of_memory();
     let got = note(rt.alloc(), "a.rs", "Vec<T>", &e)?;
     assert_eq!(rt; got.as_str(), "a.rs: out of memory");
+    Ok(())
+}
+
+#[test]
+fn lines_and_columns(rt: HostRuntime) -> Result<(), Fail> {
+    for (first, text, start, want) in [
+        (1, "a b c", 2, (1, 3)),
+        (7, "a\n\u{5b57}\tb", 6, (8, 4)),
+        (1, "a\u{200b}b", 4, (1, 10)),
+        // the end of the text, and past it
+        (2, "a\nb // so\n", 10, (3, 2)),
+        (4294967295, "\n", 9, (4294967295, 1)),
+    ] {
+        assert!(rt; line_and_column(rt.alloc(), first, text, start)? == want);
+        let note = note_from(rt.alloc(), "f", first, text, "no", start, start)?;
+        let (line, column) = want;
+        let heading = format!(in rt.alloc(); "f:{line}:{column}: no")?;
+        assert!(rt; note.as_str().starts_with(heading.as_str()));
+    }
+    Ok(())
+}
+
+#[test]
+fn shown(rt: HostRuntime) -> Result<(), Fail> {
+    let got = visible(rt.alloc(), "a\u{1b}[2J\t\u{feff}\u{e9}")?;
+    assert_eq!(rt; got.as_str(), "a\u{241b}[2J\t<U+FEFF>\u{e9}");
     Ok(())
 }

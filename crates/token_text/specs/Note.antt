@@ -172,6 +172,13 @@ note_from name first text message start end = at_place name first text message (
 abbrev pub note : Bytes → Bytes → Bytes → ℕ → ℕ → Bytes
 note name text message start end = note_from name 1 text message start end
 
+-- the line and the column that it says
+abbrev pub position : ℕ → Text → ℕ × ℕ
+position first head = (first + line_feeds head, 1 + columns (chars (visible (last_line head))))
+
+abbrev pub line_and_column : ℕ → Bytes → ℕ → ℕ × ℕ
+line_and_column first text start = position first (within (shown_place text start start).0 (chars text))
+
 -- where a refusal of a text begins; one that points nowhere, as at the end of a whole read, at the end of the text
 abbrev pub start_of : Bytes → Refusal → ℕ
 start_of text e = if e.start.hi == 0 then length text else e.start.lo

@@ -23,7 +23,7 @@ mod word;
 pub use depth::check_text;
 pub use lexer::{lex, lex_documented, lex_with};
 pub use lit_str::{lit_str_value, read_lit_str, read_lit_str_with};
-pub use notes::{note, note_at, note_from, place_of};
+pub use notes::{line_and_column, note, note_at, note_from, place_of, visible};
 pub use piece::Docs;
 pub use printer::text_of;
 pub use whole::{read_str, read_str_documented, read_str_documented_with, read_str_with};

@@ -124,6 +124,22 @@ pub fn note_from(
     joined(alloc, first, front, back, under, carets)
 }
 
+/// The line and the column that the note for a place says (`note_from`).
+pub fn line_and_column(
+    alloc: Global,
+    line: u32,
+    text: &str,
+    start: usize,
+) -> Result<(usize, usize), AllocError>
+    ensures { IfOk result (λ p. p ≡ spec.line_and_column line text.now start) }
+{
+    let (start, _) = shown_place(text, start, start);
+    let (head, _) = cut(text, start);
+    let before = visible(alloc, last_line(head))?;
+    let under = drawn(alloc, before.as_str(), ' ', '\t')?;
+    Ok((line as usize + line_feeds(head), 1 + under.len()))
+}
+
 /// The first line of a note.
 fn heading(
     alloc: Global,
@@ -289,8 +305,8 @@ fn line_feeds(text: &str) -> usize
     count
 }
 
-/// A text as it is shown.
-fn visible(alloc: Global, text: &str) -> Result<String, AllocError>
+/// A text as a note shows a line (`note`): each character of control but the tab as its picture or its number, and what shows nothing as its number.
+pub fn visible(alloc: Global, text: &str) -> Result<String, AllocError>
     ensures { IfOk result (λ s. string_bytes s ≡ spec.visible (chars text.now)) }
 {
     let mut out = String::new(alloc);

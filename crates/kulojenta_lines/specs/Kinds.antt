@@ -1,0 +1,42 @@
+-- The names of the kinds of refusals.
+use Rattle.std.specs.Prelude.{codes}
+use Rattle.token_core.specs.declared.error.ErrorKind.{ErrorKind}
+use Rattle.token_core.specs.declared.error.ErrorKind.TheVariants.{OutOfMemory, Expected, Unexpected, Custom, ExpectedDelimiter, ExpectedPathSegment, ExpectedPathIdent, ExpectedAttributeArguments, ExpectedParentheses, TokenInAttribute, ExpectedMetaArguments, ExpectedParenthesis, ExpectedMetaValue, ExpectedEquals, AttributeInAttribute, ExpectedNestedAttribute, LiteralInNestedAttribute, TokenInNestedAttribute, UnclosedDelimiter, UnexpectedClosingDelimiter, UnknownToken, UnterminatedToken, DocComment, MalformedNumber, BinderWithQuestion, GenericsOnWhere, CaptureNotAllowed, ConditionalConstNotAllowed, ConstNotAllowed, NoTraitInObject, NoTraitInImpl, RangeWithoutEnd, OpenRangeInSlice, BoundModifiersNotSupported, NestedTooDeep}
+use Rattle.token_core.specs.Toks.{Bytes}
+
+unfoldable pub name : ErrorKind → Bytes
+name OutOfMemory = codes "OutOfMemory"
+name Expected = codes "Expected"
+name Unexpected = codes "Unexpected"
+name Custom = codes "Custom"
+name ExpectedDelimiter = codes "ExpectedDelimiter"
+name ExpectedPathSegment = codes "ExpectedPathSegment"
+name ExpectedPathIdent = codes "ExpectedPathIdent"
+name ExpectedAttributeArguments = codes "ExpectedAttributeArguments"
+name ExpectedParentheses = codes "ExpectedParentheses"
+name TokenInAttribute = codes "TokenInAttribute"
+name ExpectedMetaArguments = codes "ExpectedMetaArguments"
+name ExpectedParenthesis = codes "ExpectedParenthesis"
+name ExpectedMetaValue = codes "ExpectedMetaValue"
+name ExpectedEquals = codes "ExpectedEquals"
+name AttributeInAttribute = codes "AttributeInAttribute"
+name ExpectedNestedAttribute = codes "ExpectedNestedAttribute"
+name LiteralInNestedAttribute = codes "LiteralInNestedAttribute"
+name TokenInNestedAttribute = codes "TokenInNestedAttribute"
+name UnclosedDelimiter = codes "UnclosedDelimiter"
+name UnexpectedClosingDelimiter = codes "UnexpectedClosingDelimiter"
+name UnknownToken = codes "UnknownToken"
+name UnterminatedToken = codes "UnterminatedToken"
+name DocComment = codes "DocComment"
+name MalformedNumber = codes "MalformedNumber"
+name BinderWithQuestion = codes "BinderWithQuestion"
+name GenericsOnWhere = codes "GenericsOnWhere"
+name CaptureNotAllowed = codes "CaptureNotAllowed"
+name ConditionalConstNotAllowed = codes "ConditionalConstNotAllowed"
+name ConstNotAllowed = codes "ConstNotAllowed"
+name NoTraitInObject = codes "NoTraitInObject"
+name NoTraitInImpl = codes "NoTraitInImpl"
+name RangeWithoutEnd = codes "RangeWithoutEnd"
+name OpenRangeInSlice = codes "OpenRangeInSlice"
+name BoundModifiersNotSupported = codes "BoundModifiersNotSupported"
+name NestedTooDeep = codes "NestedTooDeep"

@@ -1,0 +1,17 @@
+use Rattle.std.proofs.Common.{◌≡◌, ◌+◌, length, chars, string_bytes, refl, ap, ◌∙◌}
+use Rattle.token_text.specs.Note as spec
+use Rattle.token_text.proofs.NoteLaws.{length-drawn}
+use Rattle.token_text.proofs.notes.line_and_column.Goals as goal
+
+pub returns : goal.returns
+returns c =
+    let text = c.args.text.now in
+    let p = spec.shown_place text c.args.start c.args.start in
+    let head = spec.within p.0 (chars text) in
+    let is_head : chars c.cut.result.0.now ≡ head = c.cut.ensures.front ∙ ap (λ x. spec.within x.0 (chars text)) c.shown_place-start.ensures in
+    let shown = spec.visible (spec.last_line head) in
+    let before = string_bytes c.in_ok-before.before in
+    let is_before : before ≡ shown = c.in_ok-before.ensures ∙ ap spec.visible (c.last_line.ensures ∙ ap spec.last_line is_head) in
+    let under = string_bytes c.in_ok-under.under in
+    let is_under : under ≡ spec.blanks (chars shown) = c.in_ok-under.ensures ∙ ap (λ t. spec.blanks (chars t)) (c.as_str.ensures.value ∙ is_before) in
+    refl
