@@ -6,7 +6,7 @@
    Pointers  have so many bytes behind them as the length beside them says, and may be NULL where that is 0: `out` with length 0 asks how long the text is.
              Any other NULL, of a report too, is answered by KULOJENTA_NULL; then nothing is written. (So it is by the names of this header. The functions
              of the library itself, which other languages call, take no NULL at all.)
-   Overlap   `out` and the report share no byte with each other or with what else the call is given. What is read may overlap.
+   Overlap   `out`, `nodes` and the report share no byte with each other or with what else the call is given. What is read may overlap.
    Threads   Calls share nothing: any number of threads may call at once, each with an `out` and a report of its own.
    Stack     A call takes that of its thread, the more the deeper its text nests: so many levels as KULOJENTA_LIMIT fit in 2 MB. With a higher limit the
              caller sees to the stack: README.md says how deep (Limits).
@@ -90,15 +90,50 @@ typedef struct {
     size_t end;
 } kulojenta_report;
 
+/* What a node is. */
+enum kulojenta_node_kind {
+    KULOJENTA_TYPE = 0,
+    KULOJENTA_PATH = 1,            /* of a type, a bound or a pattern; of `<T as a::B>::C` it is `a::B`, and `C` as another one */
+    KULOJENTA_MACRO_PATH = 2,      /* the path of a macro call */
+    KULOJENTA_LIFETIME = 3,
+    KULOJENTA_BOUND = 4,
+    KULOJENTA_ARGUMENT = 5,        /* an argument between angle marks */
+    KULOJENTA_ATTRIBUTE = 6,
+    KULOJENTA_MOD_PATH = 7,        /* a path without arguments: of an attribute or a meta, or by itself */
+    KULOJENTA_META_ARGUMENTS = 8,  /* what stands in the brackets of an attribute or a meta */
+    KULOJENTA_META_ARGUMENT = 9,   /* what stands there between commas */
+    KULOJENTA_VALUE = 10,          /* what stands after the `=` of an attribute or a meta */
+    KULOJENTA_BINDING = 11,        /* a name that a pattern binds */
+    KULOJENTA_REF_BINDING = 12,    /* one after `ref` */
+    KULOJENTA_MUT_BINDING = 13,    /* one after `mut` */
+    KULOJENTA_REF_MUT_BINDING = 14 /* one after `ref mut` */
+};
+
+/* A node of what was read: what it is, a kulojenta_node_kind, and from which byte of the text it stands to which. */
+typedef struct {
+    uint32_t kind;
+    size_t start;
+    size_t end;
+} kulojenta_node;
+
 /* Reads all of a text by the reader of this name (docs/READERS.txt), where all tokens stand for an expression, and writes the text of the print of what
    was read to out, or why there is none. A text that goes down more levels than the limit is refused as nested too deep, at the first token that passes it:
    a group takes a level, an open `<` three, a `&` one, and so on (docs/TEXT.md). A comment of documentation is read as the attribute that it stands for. */
 uint32_t kulojenta_read(const uint8_t *reader, size_t reader_len, const uint8_t *text, size_t text_len, size_t limit, uint8_t *out, size_t out_len,
                         kulojenta_report *report);
 
+/* Reads so, and writes the nodes of what was read to nodes, each before what it holds, in the order in which they are written; or why there are none
+   to out. Where there are some, the report's kind is KULOJENTA_NONE and its bytes are their number, that of all where their room is short. */
+uint32_t kulojenta_nodes(const uint8_t *reader, size_t reader_len, const uint8_t *text, size_t text_len, kulojenta_node *nodes, size_t nodes_len, uint8_t *out,
+                         size_t out_len, kulojenta_report *report);
+
 /* Writes `NAME:LINE:COLUMN: MESSAGE`, the line of the text, and marks under the place from start to end, to out. */
 uint32_t kulojenta_note(const uint8_t *name, size_t name_len, const uint8_t *text, size_t text_len, const uint8_t *message, size_t message_len, size_t start,
                         size_t end, uint8_t *out, size_t out_len, kulojenta_report *report);
+
+/* The same of a text that was cut from a larger one, whose first line has this number there. */
+uint32_t kulojenta_note_from(const uint8_t *name, size_t name_len, uint32_t line, const uint8_t *text, size_t text_len, const uint8_t *message,
+                             size_t message_len, size_t start, size_t end, uint8_t *out, size_t out_len, kulojenta_report *report);
 
 /* Writes the name of a reader to out: of the first by 0, and so on until there is none, which is KULOJENTA_UNKNOWN_READER. */
 uint32_t kulojenta_reader(size_t index, uint8_t *out, size_t out_len, kulojenta_report *report);
@@ -137,6 +172,30 @@ static inline uint32_t kulojenta_note_or_null(const uint8_t *name, size_t name_l
                           kulojenta_room(out, &none), out_len, report);
 }
 
+static inline uint32_t kulojenta_nodes_or_null(const uint8_t *reader, size_t reader_len, const uint8_t *text, size_t text_len, kulojenta_node *nodes,
+                                               size_t nodes_len, uint8_t *out, size_t out_len, kulojenta_report *report) {
+    uint8_t none = 0;
+    kulojenta_node no_node = {0, 0, 0};
+    if (report == NULL || kulojenta_lacks(reader, reader_len) || kulojenta_lacks(text, text_len) || kulojenta_lacks(nodes, nodes_len) ||
+        kulojenta_lacks(out, out_len)) {
+        return KULOJENTA_NULL;
+    }
+    return kulojenta_nodes(kulojenta_given(reader), reader_len, kulojenta_given(text), text_len, nodes == NULL ? &no_node : nodes, nodes_len,
+                           kulojenta_room(out, &none), out_len, report);
+}
+
+static inline uint32_t kulojenta_note_from_or_null(const uint8_t *name, size_t name_len, uint32_t line, const uint8_t *text, size_t text_len,
+                                                   const uint8_t *message, size_t message_len, size_t start, size_t end, uint8_t *out, size_t out_len,
+                                                   kulojenta_report *report) {
+    uint8_t none = 0;
+    if (report == NULL || kulojenta_lacks(name, name_len) || kulojenta_lacks(text, text_len) || kulojenta_lacks(message, message_len) ||
+        kulojenta_lacks(out, out_len)) {
+        return KULOJENTA_NULL;
+    }
+    return kulojenta_note_from(kulojenta_given(name), name_len, line, kulojenta_given(text), text_len, kulojenta_given(message), message_len, start, end,
+                               kulojenta_room(out, &none), out_len, report);
+}
+
 static inline uint32_t kulojenta_reader_or_null(size_t index, uint8_t *out, size_t out_len, kulojenta_report *report) {
     uint8_t none = 0;
     return report == NULL || kulojenta_lacks(out, out_len) ? (uint32_t)KULOJENTA_NULL : kulojenta_reader(index, kulojenta_room(out, &none), out_len, report);
@@ -144,6 +203,8 @@ static inline uint32_t kulojenta_reader_or_null(size_t index, uint8_t *out, size
 
 #define kulojenta_read kulojenta_read_or_null
 #define kulojenta_note kulojenta_note_or_null
+#define kulojenta_nodes kulojenta_nodes_or_null
+#define kulojenta_note_from kulojenta_note_from_or_null
 #define kulojenta_reader kulojenta_reader_or_null
 
 #ifdef __cplusplus

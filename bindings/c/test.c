@@ -37,6 +37,16 @@ static uint32_t names(size_t index, size_t room) {
     return kulojenta_reader(index, out, room, &report);
 }
 
+static kulojenta_node nodes[16];
+
+static uint32_t finds(const char *reader, const char *text, size_t room) {
+    memset(out, '.', sizeof out);
+    memset(nodes, 0xff, sizeof nodes);
+    return kulojenta_nodes(bytes(reader), strlen(reader), bytes(text), strlen(text), nodes, room, out, sizeof out, &report);
+}
+
+static int node_is(size_t i, uint32_t kind, size_t start, size_t end) { return nodes[i].kind == kind && nodes[i].start == start && nodes[i].end == end; }
+
 /* The text of the report is this one, and stands in front of what was there. */
 static int says(const char *text) {
     size_t length = strlen(text);
@@ -82,6 +92,34 @@ static int null_pointers(void) {
     wrong += is(is_null(kulojenta_note(bytes("a"), 1, bytes("b"), 1, bytes("c"), 1, 0, 1, NULL, 9, &report)), "a note's out NULL");
     wrong += is(is_null(kulojenta_note(bytes("a"), 1, bytes("b"), 1, bytes("c"), 1, 0, 1, out, 9, NULL)), "a note's report NULL");
     wrong += is(is_null(kulojenta_reader(0, NULL, 9, &report)) && is_null(kulojenta_reader(0, out, 9, NULL)), "the same of a reader's name");
+    return wrong;
+}
+
+/* ---- nodes */
+
+static int found_nodes(void) {
+    int wrong = 0;
+    wrong += is(finds("Type", "&'a [T]", 16) == KULOJENTA_SHOWN && report.bytes == 5 && at(KULOJENTA_NONE, 0, 0) && node_is(0, KULOJENTA_TYPE, 0, 7) &&
+                    node_is(1, KULOJENTA_LIFETIME, 1, 3) && node_is(2, KULOJENTA_TYPE, 4, 7) && node_is(3, KULOJENTA_TYPE, 5, 6) &&
+                    node_is(4, KULOJENTA_PATH, 5, 6) && nodes[5].kind == UINT32_MAX && out[0] == '.',
+                "the nodes of a type");
+    wrong += is(finds("Type", "&'a [T]", 5) == KULOJENTA_SHOWN && node_is(4, KULOJENTA_PATH, 5, 6), "nodes that just fit");
+    wrong += is(finds("Type", "&'a [T]", 4) == KULOJENTA_ROOM_IS_SHORT && report.bytes == 5 && report.kind == KULOJENTA_NONE && nodes[0].kind == UINT32_MAX,
+                "nodes that are wanted");
+    wrong += is(finds("Pat::parse_single", "(a, ref mut b)", 16) == KULOJENTA_SHOWN && report.bytes == 2 && node_is(0, KULOJENTA_BINDING, 1, 2) &&
+                    node_is(1, KULOJENTA_REF_MUT_BINDING, 12, 13),
+                "the names of a pattern");
+    wrong += is(finds("Type", "a b", 16) == KULOJENTA_REFUSED && says("unexpected token") && at(KULOJENTA_UNEXPECTED, 2, 3) && nodes[0].kind == UINT32_MAX,
+                "a type that is refused");
+    wrong += is(finds("Foo", "a", 16) == KULOJENTA_UNKNOWN_READER && says("unknown reader") && at(KULOJENTA_NO_READER, 0, 0), "no such reader");
+    wrong += is(kulojenta_nodes(bytes("Type"), 4, bytes("A"), 1, NULL, 0, NULL, 0, &report) == KULOJENTA_ROOM_IS_SHORT && report.bytes == 2, "nodes NULL");
+    report.bytes = 99;
+    memset(out, '.', sizeof out);
+    wrong += is(is_null(kulojenta_nodes(bytes("Type"), 4, bytes("A"), 1, NULL, 2, out, 9, &report)), "nodes NULL that have a length");
+    wrong += is(is_null(kulojenta_nodes(bytes("Type"), 4, bytes("A"), 1, nodes, 2, out, 9, NULL)), "a report of nodes NULL");
+    wrong += is(kulojenta_note_from(bytes("a.rs"), 4, 7, bytes("a\nb"), 3, bytes("c"), 1, 2, 3, out, sizeof out, &report) == KULOJENTA_SHOWN &&
+                    says("a.rs:8:1: c\nb\n^"),
+                "a note on a text that was cut");
     return wrong;
 }
 
@@ -156,6 +194,7 @@ int main(void) {
     wrong += is(readers == READERS && says("unknown reader") && at(KULOJENTA_NO_READER, 0, 0), "all readers");
     wrong += is(names(SIZE_MAX, 256) == KULOJENTA_UNKNOWN_READER, "a reader far behind them");
     wrong += null_pointers();
+    wrong += found_nodes();
     wrong += threads();
     printf("%d of %d calls\n", count - wrong, count);
     return wrong != 0;

@@ -1,11 +1,16 @@
-//! The nodes of types, bounds and generics, each with its place in the text; places of prints.
+//! The nodes of types, bounds, generics, patterns and metas, each with its place in the text; places of prints.
 
 use crate::lists::text_is;
 use std::alloc::{AllocError, Global};
 use std::fmt::Write;
 use std::process::Abort;
 use std::test::Fail;
-use syn_mid::verbatim::{Attribute, Expr, Generics, Node, Type, TypeParamBound, WhereClause};
+use syn_mid::verbatim::{
+    Abi, Attribute, ConstParam, Expr, GenericArgument, Generics, Meta, MetaNameValue, NamedArg, Node, Pat, PatType,
+    PathSegment, ReturnType, Type, TypeArray, TypeMacro, TypeNever, TypeParamBound, TypeReference,
+    TypeTraitObject, TypeTuple, WhereClause,
+};
+use syn_mid::{CapturedParam, Macro, MetaList};
 use syn_mid::walk::{NodeOf, Walk, nodes, span_of, span_of_tokens};
 use token_core::token::{Comma, Plus};
 use token_core::{ByFn, Error, Ident, Items, Parse, Punctuated, Span, TokenStream};
@@ -18,8 +23,20 @@ fn told(alloc: Global, text: &str, nodes: &Items<Node<'_>>) -> Result<String, Al
         let kind = match node {
             NodeOf::Type(_) => "T",
             NodeOf::Path(_) => "P",
+            NodeOf::TraitPath(_, _) => "PT",
+            NodeOf::ItemPath(_, _) => "PI",
             NodeOf::MacroPath(_) => "M",
             NodeOf::Lifetime(_) => "L",
+            NodeOf::Bound(_) => "B",
+            NodeOf::Argument(_) => "G",
+            NodeOf::Attribute(_) => "A",
+            NodeOf::ModPath(_) => "D",
+            NodeOf::MetaArguments(_) => "S",
+            NodeOf::Value(_) => "V",
+            NodeOf::Binding(_, false, false) => "N",
+            NodeOf::Binding(_, true, false) => "N ref",
+            NodeOf::Binding(_, false, true) => "N mut",
+            NodeOf::Binding(_, true, true) => "N ref mut",
         };
         let span = span_of(alloc, node)?;
         let place = text.get(span.lo..span.hi).unwrap_or("nowhere");
@@ -67,12 +84,12 @@ fn types(rt: HostRuntime) {
         ),
         (
             "&'a Map<'b, [K; n]>",
-            "T &'a Map<'b, [K; n]>; L 'a; T Map<'b, [K; n]>; P Map<'b, [K; n]>; L 'b; T [K; n]; T K; P K; ",
+            "T &'a Map<'b, [K; n]>; L 'a; T Map<'b, [K; n]>; P Map<'b, [K; n]>; G 'b; L 'b; G [K; n]; T [K; n]; T K; P K; ",
         ),
         // the type that qualifies a path stands before it
         (
             "<T as a::B<U>>::C<'d>",
-            "T <T as a::B<U>>::C<'d>; T T; P T; P a::B<U>>::C<'d>; T U; P U; L 'd; ",
+            "T <T as a::B<U>>::C<'d>; T T; P T; PT a::B<U>>::C<'d>; G U; T U; P U; PI a::B<U>>::C<'d>; G 'd; L 'd; ",
         ),
         (
             "for<'a> fn(x: &'a A, B, ...) -> C",
@@ -80,15 +97,20 @@ fn types(rt: HostRuntime) {
         ),
         (
             "dyn Fn(A) -> B",
-            "T dyn Fn(A) -> B; P Fn(A) -> B; T A; P A; T B; P B; ",
+            "T dyn Fn(A) -> B; B Fn(A) -> B; P Fn(A) -> B; T A; P A; T B; P B; ",
         ),
         (
             "impl for<'a> A<'a> + 'b + use<'c, T>",
-            "T impl for<'a> A<'a> + 'b + use<'c, T>; L 'a; P A<'a>; L 'a; L 'b; L 'c; ",
+            "T impl for<'a> A<'a> + 'b + use<'c, T>; B for<'a> A<'a>; L 'a; P A<'a>; G 'a; L 'a; B 'b; L 'b; B use<'c, T>; L 'c; ",
         ),
         (
             "A<{ n }, N<'a> = 1, I<T> = U, J<'b>: B + ?C>",
-            "T A<{ n }, N<'a> = 1, I<T> = U, J<'b>: B + ?C>; P A<{ n }, N<'a> = 1, I<T> = U, J<'b>: B + ?C>; L 'a; T T; P T; T U; P U; L 'b; P B; P C; ",
+            "T A<{ n }, N<'a> = 1, I<T> = U, J<'b>: B + ?C>; P A<{ n }, N<'a> = 1, I<T> = U, J<'b>: B + ?C>; G { n }; G N<'a> = 1; G 'a; L 'a; G I<T> = U; G T; T T; P T; T U; P U; G J<'b>: B + ?C; G 'b; L 'b; B B; P B; B ?C; P C; ",
+        ),
+        ("<T>::C", "T <T>::C; T T; P T; PI C; "),
+        (
+            "fn(#[a] x: A, #[b] ...)",
+            "T fn(#[a] x: A, #[b] ...); A #[a]; T A; P A; A #[b]; ",
         ),
         ("\\(A\\)", "T \\(A\\); T A; P A; "),
     ] {
@@ -99,25 +121,88 @@ fn types(rt: HostRuntime) {
 #[test]
 fn bounds_and_generics(rt: HostRuntime) {
     let alloc = rt.alloc();
-    has::<TypeParamBound>(&rt, alloc, "'a", "L 'a; ");
+    has::<TypeParamBound>(&rt, alloc, "'a", "B 'a; L 'a; ");
     has::<TypeParamBound>(
         &rt,
         alloc,
         "(for<'a, 'b: 'a> a::B<'b>)",
-        "L 'a; L 'b; L 'a; P a::B<'b>; L 'b; ",
+        "B (for<'a, 'b: 'a> a::B<'b>); L 'a; L 'b; L 'a; P a::B<'b>; G 'b; L 'b; ",
     );
     has::<Generics>(
         &rt,
         alloc,
         "<'a: 'b + 'c, #[d(e)] T: ?F<'a> + 'b = U, const N: u8 = { n }>",
-        "L 'a; L 'b; L 'c; P F<'a>; L 'a; L 'b; T U; P U; T u8; P u8; ",
+        "L 'a; L 'b; L 'c; A #[d(e)]; B ?F<'a>; P F<'a>; G 'a; L 'a; B 'b; L 'b; T U; P U; T u8; P u8; ",
     );
     has::<WhereClause>(
         &rt,
         alloc,
         "where for<'a> T: A<'a> + 'd, 'b: 'c",
-        "L 'a; T T; P T; P A<'a>; L 'a; L 'd; L 'b; L 'c; ",
+        "L 'a; T T; P T; B A<'a>; P A<'a>; G 'a; L 'a; B 'd; L 'd; L 'b; L 'c; ",
     );
+}
+
+#[test]
+fn parts(rt: HostRuntime) {
+    let alloc = rt.alloc();
+    has::<TypeArray>(&rt, alloc, "[A; 1]", "T A; P A; ");
+    has::<TypeTuple>(&rt, alloc, "(A, !)", "T A; P A; T !; ");
+    has::<TypeReference>(&rt, alloc, "&'a A", "L 'a; T A; P A; ");
+    has::<TypeTraitObject>(&rt, alloc, "dyn A", "B A; P A; ");
+    has::<TypeMacro>(&rt, alloc, "a::b!(c)", "M a::b; ");
+    has::<TypeNever>(&rt, alloc, "!", "");
+    has::<Abi>(&rt, alloc, "extern \"C\"", "");
+    has::<ReturnType>(&rt, alloc, "-> A", "T A; P A; ");
+    has::<NamedArg>(&rt, alloc, "#[a] b: C", "A #[a]; T C; P C; ");
+    has::<GenericArgument>(&rt, alloc, "A = B", "G A = B; T B; P B; ");
+    has::<PathSegment>(&rt, alloc, "A<'b>", "G 'b; L 'b; ");
+    has::<ConstParam>(&rt, alloc, "#[a] const N: A = 1", "A #[a]; T A; P A; ");
+    has::<CapturedParam>(&rt, alloc, "'a", "L 'a; ");
+}
+
+#[test]
+fn metas(rt: HostRuntime) {
+    let alloc = rt.alloc();
+    has::<Meta>(&rt, alloc, "a::b", "D a::b; ");
+    has::<Meta>(&rt, alloc, "a(b, c = 1)", "D a; S b, c = 1; ");
+    has::<Meta>(&rt, alloc, "a = \"b\"", "D a; V \"b\"; ");
+    has::<MetaList>(&rt, alloc, "a {}", "D a; S ; ");
+    has::<MetaNameValue>(&rt, alloc, "a = b", "D a; V b; ");
+    has::<Macro>(&rt, alloc, "a::b![c]", "M a::b; ");
+}
+
+fn in_pattern(alloc: Global, text: &str) -> Result<String, Error> {
+    let pattern = read_str_with(alloc, ByFn(Pat::parse_multi), text)?;
+    Ok(told(alloc, text, &nodes(alloc, &pattern)?)?)
+}
+
+/// A pattern of the text has these nodes.
+fn binds(rt: &impl Abort, alloc: Global, text: &str, wanted: &str) {
+    match in_pattern(alloc, text) {
+        Ok(found) => text_is(rt, found.as_str(), wanted),
+        Err(error) => text_is(rt, error.text(), wanted),
+    }
+}
+
+#[test]
+fn patterns(rt: HostRuntime) {
+    let alloc = rt.alloc();
+    for (text, wanted) in [
+        ("_", ""),
+        ("a", "N a; "),
+        ("ref a", "N ref a; "),
+        ("mut a", "N mut a; "),
+        ("ref mut a @ (b, ..)", "N ref mut a; N b; "),
+        ("&mut [a, 1, b @ ..]", "N a; N b; "),
+        ("A(a) | B(a)", "P A; N a; P B; N a; "),
+        ("a::B { x, y: ref z, #[c] .. }", "P a::B; N x; N ref z; A #[c]; "),
+        ("<T as A>::B(x)", "T T; P T; PT A>::B; PI A>::B; N x; "),
+        ("A::<'b>::C..=D::E", "P A::<'b>::C; G 'b; L 'b; P D::E; "),
+        ("m::n!(a)", "M m::n; "),
+    ] {
+        binds(&rt, alloc, text, wanted);
+    }
+    has::<PatType>(&rt, alloc, "(a, mut b): (A, B)", "N a; N mut b; T (A, B); T A; P A; T B; P B; ");
 }
 
 fn in_bounds(alloc: Global, text: &str) -> Result<String, Error> {
@@ -129,7 +214,11 @@ fn in_bounds(alloc: Global, text: &str) -> Result<String, Error> {
 #[test]
 fn lists(rt: HostRuntime) {
     match in_bounds(rt.alloc(), "A<B> + 'c") {
-        Ok(found) => text_is(&rt, found.as_str(), "P A<B>; T B; P B; L 'c; "),
+        Ok(found) => text_is(
+            &rt,
+            found.as_str(),
+            "B A<B>; P A<B>; G B; T B; P B; B 'c; L 'c; ",
+        ),
         Err(_) => panic!(rt; "refused"),
     }
 }

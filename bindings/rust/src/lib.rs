@@ -18,8 +18,12 @@
 //! whatever the program's global allocator is.
 
 mod kind;
+mod node;
 
 pub use kind::Kind;
+pub use node::{Node, NodeKind};
+
+use node::NodeAt;
 
 use std::error::Error;
 use std::fmt;
@@ -39,6 +43,8 @@ type Call<'a> = &'a dyn Fn(&mut [u8], &mut Report) -> u32;
 
 const SHOWN: u32 = 0;
 const ROOM_IS_SHORT: u32 = 3;
+/// The kind of a report where there is no refusal.
+const NONE: u32 = 0;
 
 /// How many levels a text may go down for [`read`]: a group takes one, an open `<` three, a `&` one, and so on. Code as it is written goes down fewer
 /// than 30.
@@ -56,9 +62,22 @@ extern "C" {
         report: *mut Report,
     ) -> u32;
 
-    fn kulojenta_note(
+    fn kulojenta_nodes(
+        reader: *const u8,
+        reader_len: usize,
+        text: *const u8,
+        text_len: usize,
+        nodes: *mut NodeAt,
+        nodes_len: usize,
+        out: *mut u8,
+        out_len: usize,
+        report: *mut Report,
+    ) -> u32;
+
+    fn kulojenta_note_from(
         name: *const u8,
         name_len: usize,
+        line: u32,
         text: *const u8,
         text_len: usize,
         message: *const u8,
@@ -118,31 +137,10 @@ impl Refusal {
     /// is the text's, such as that of its file, and `text` the one that was read.
     #[must_use]
     pub fn note(&self, name: &str, text: &str) -> String {
-        let message = &self.message;
-        if !self.kind.has_place() {
-            return format!("{name}: {message}");
-        }
-        let call = |out: &mut [u8], report: &mut Report| {
-            // (each slice lives as long as the call, which reads the first three and writes the others)
-            unsafe {
-                kulojenta_note(
-                    name.as_ptr(),
-                    name.len(),
-                    text.as_ptr(),
-                    text.len(),
-                    message.as_ptr(),
-                    message.len(),
-                    self.start,
-                    self.end,
-                    out.as_mut_ptr(),
-                    out.len(),
-                    report,
-                )
-            }
-        };
-        match told(&call, 2 * text.len().min(200) + 200) {
-            (SHOWN, note, _) => note,
-            _ => format!("{name}: {message}"),
+        if self.kind.has_place() {
+            note_at(name, 1, text, &self.message, self.start, self.end)
+        } else {
+            format!("{name}: {}", self.message)
         }
     }
 }
@@ -189,12 +187,106 @@ pub fn read_within(reader: &str, text: &str, limit: usize) -> Result<String, Ref
     };
     match told(&call, 2 * text.len() + 100) {
         (SHOWN, shown, _) => Ok(shown),
-        (_, message, report) => Err(Refusal {
-            message,
-            kind: Kind::of(report.kind),
-            start: report.start,
-            end: report.end,
-        }),
+        (_, message, report) => Err(refused(message, &report)),
+    }
+}
+
+fn refused(message: String, report: &Report) -> Refusal {
+    Refusal {
+        message,
+        kind: Kind::of(report.kind),
+        start: report.start,
+        end: report.end,
+    }
+}
+
+/// Reads all of a text by the reader of this name, and answers the nodes of what was read, each before what it holds, in the order in which they
+/// are written.
+///
+/// ```
+/// use kulojenta::{nodes, NodeKind};
+///
+/// let text = "&'a [T]";
+/// let found = nodes("Type", text).unwrap();
+/// assert_eq!(found[1].kind, NodeKind::Lifetime);
+/// assert_eq!(found.iter().map(|it| it.text(text)).collect::<Vec<_>>(), ["&'a [T]", "'a", "[T]", "T", "T"]);
+/// ```
+///
+/// # Errors
+///
+/// It is refused as [`read`] is.
+pub fn nodes(reader: &str, text: &str) -> Result<Vec<Node>, Refusal> {
+    let mut found = vec![NodeAt::default(); text.len() / 2 + 16];
+    let mut out = vec![0; 200];
+    loop {
+        let mut report = Report::default();
+        // (each slice lives as long as the call, which reads the first two and writes the others)
+        let status = unsafe {
+            kulojenta_nodes(
+                reader.as_ptr(),
+                reader.len(),
+                text.as_ptr(),
+                text.len(),
+                found.as_mut_ptr(),
+                found.len(),
+                out.as_mut_ptr(),
+                out.len(),
+                &mut report,
+            )
+        };
+        match (status, report.kind) {
+            (SHOWN, _) => {
+                found.truncate(report.bytes);
+                return Ok(found.into_iter().map(Node::from).collect());
+            }
+            (ROOM_IS_SHORT, NONE) => found.resize(report.bytes, NodeAt::default()),
+            (ROOM_IS_SHORT, _) => out.resize(report.bytes, 0),
+            _ => {
+                out.truncate(report.bytes);
+                return Err(refused(utf8(out), &report));
+            }
+        }
+    }
+}
+
+/// For people: `NAME:LINE:COLUMN: MESSAGE`, the line of the text, and marks under the place from `start` to `end`, in bytes. `line` is the number of
+/// the text's first line: 1, or that in a larger text from which it was cut.
+///
+/// ```
+/// let note = kulojenta::note_at("a.rs", 7, "a\nb c", "no such option", 4, 5);
+/// assert_eq!(note, "a.rs:8:3: no such option\nb c\n  ^");
+/// ```
+#[must_use]
+pub fn note_at(
+    name: &str,
+    line: u32,
+    text: &str,
+    message: &str,
+    start: usize,
+    end: usize,
+) -> String {
+    let call = |out: &mut [u8], report: &mut Report| {
+        // (each slice lives as long as the call, which reads the first three and writes the others)
+        unsafe {
+            kulojenta_note_from(
+                name.as_ptr(),
+                name.len(),
+                line,
+                text.as_ptr(),
+                text.len(),
+                message.as_ptr(),
+                message.len(),
+                start,
+                end,
+                out.as_mut_ptr(),
+                out.len(),
+                report,
+            )
+        }
+    };
+    match told(&call, 2 * text.len().min(200) + 200) {
+        (SHOWN, note, _) => note,
+        _ => format!("{name}: {message}"),
     }
 }
 
@@ -226,8 +318,11 @@ fn told(call: Call<'_>, room: usize) -> (u32, String, Report) {
         status = call(&mut out, &mut report);
     }
     out.truncate(report.bytes);
-    let text = String::from_utf8(out).expect("prints, notes and refusals are UTF-8");
-    (status, text, report)
+    (status, utf8(out), report)
+}
+
+fn utf8(out: Vec<u8>) -> String {
+    String::from_utf8(out).expect("prints, notes and refusals are UTF-8")
 }
 
 #[cfg(test)]

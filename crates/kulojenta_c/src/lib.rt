@@ -2,6 +2,8 @@
 #![tactic(auto)]
 
 ghost use Rattle.std.specs.Prelude.{◌≡◌};
+ghost use Rattle.syn_nodes.specs.Calls as found;
+ghost use Rattle.syn_nodes.specs.Visits.{category as found_category};
 ghost use Rattle.syn_run.specs.Calls.{Names, Notes, Reads};
 ghost use Rattle.syn_run.specs.Readers.{category};
 ghost use Rattle.syn_run.specs.declared.call.Call.{Call};
@@ -9,6 +11,8 @@ ghost use Rattle.kulojenta_c.specs.Reports.{call_of};
 ghost use Rattle.kulojenta_c.specs.Tokens.{verbatim};
 
 use std::alloc::Global;
+use syn_nodes::call::{nodes_into, note_from_into};
+use syn_nodes::node::NodeAt;
 use syn_run::call::{Call, name_into, note_into, read_into};
 use syn_verbatim::expr::VerbatimExpr;
 
@@ -41,6 +45,26 @@ pub extern "C" fn kulojenta_read(
     )
 }
 
+/// Reads all of a text by the reader of this name, over `VerbatimExpr`, and writes the nodes of what was read to `nodes`, or why there are none
+/// to `out`. Answers the status. Where there are some, `bytes` of the report is how many.
+#[unsafe(no_mangle)]
+pub extern "C" fn kulojenta_nodes(
+    alloc: Global,
+    reader: &[u8],
+    text: &[u8],
+    nodes: &mut [NodeAt],
+    out: &mut [u8],
+    report: &mut Report,
+) -> u32
+    ensures { found.Reads (found_category verbatim) verbatim.prints reader.now text.now nodes.old nodes.new out.old out.new
+        (call_of result report.new) }
+{
+    told(
+        nodes_into::<VerbatimExpr>(alloc, reader, text, nodes, out),
+        report,
+    )
+}
+
 /// Writes the note for a message at a place of a text to `out`, or why there is none. Answers the status.
 #[unsafe(no_mangle)]
 pub extern "C" fn kulojenta_note(
@@ -57,6 +81,27 @@ pub extern "C" fn kulojenta_note(
 {
     told(
         note_into(alloc, name, text, message, (start, end), out),
+        report,
+    )
+}
+
+/// The same of a text that was cut from a larger one: its first line is the one of this number there.
+#[unsafe(no_mangle)]
+pub extern "C" fn kulojenta_note_from(
+    alloc: Global,
+    name: &[u8],
+    line: u32,
+    text: &[u8],
+    message: &[u8],
+    start: usize,
+    end: usize,
+    out: &mut [u8],
+    report: &mut Report,
+) -> u32
+    ensures { found.NotesFrom name.now line text.now message.now (start, end) out.old out.new (call_of result report.new) }
+{
+    told(
+        note_from_into(alloc, name, line, text, message, (start, end), out),
         report,
     )
 }

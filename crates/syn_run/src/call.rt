@@ -86,7 +86,7 @@ fn read_by<X: Subtree>(
 
 /// The number of a kind.
 #[tactic(auto, unfolding(crate::specs::Calls::number))]
-fn number(kind: ErrorKind) -> u32
+pub fn number(kind: ErrorKind) -> u32
     ensures value { result ≡ spec.number kind }
     ensures few { result < 64 }
 {
@@ -94,7 +94,7 @@ fn number(kind: ErrorKind) -> u32
 }
 
 /// Writes a text where the room takes it.
-fn tell(said: &str, status: u32, kind: u32, place: (usize, usize), out: &mut [u8]) -> Call
+pub fn tell(said: &str, status: u32, kind: u32, place: (usize, usize), out: &mut [u8]) -> Call
     ensures { spec.Tells said.now status kind place out.old out.new result }
 {
     let bytes = said.len();

@@ -1,2 +1,3 @@
+pub mod PatternWalks
 pub mod Spans
 pub mod Walks

@@ -1,5 +1,5 @@
 -- What stands in each kind of tree, by what it holds.
-use Rattle.std.proofs.Common.{◌≡◌, List, [], ◌∷◌, ◌++◌, map, Option, Some, None, refl, sym, ap, ◌∙◌, append_assoc, append-nil}
+use Rattle.std.proofs.Common.{◌≡◌, ℕ, List, [], ◌∷◌, ◌++◌, map, Option, Some, None, refl, sym, ap, ◌∙◌, append_assoc, append-nil}
 use Rattle.std.proofs.lemmas.List.{map-append}
 use Rattle.token_core.specs.declared.lifetime.Lifetime.{Lifetime}
 use Rattle.token_core.specs.declared.tree.TokenTree.{TokenTree}
@@ -45,10 +45,10 @@ use Rattle.syn_ty.specs.generics.Params.{Colon, Eq, trait_bound_of, type_param_o
 use Rattle.syn_ty.specs.path.Paths.{assoc_type_of, assoc_const_of, constraint_of, parens_of}
 use Rattle.syn_ty.specs.ty.Types.{Comma, Plus, fn_ptr_with}
 use Rattle.syn_ty.specs.ty.Trees.{Family, Layer, TypeParam, ConstParam, BoundLifetimes, TypeParamBound, TraitBound, PathArguments, Path, PathSegment, GenericParam, GenericArgument, AngleBracketed, Parenthesized, AssocType, AssocConst, Constraint, TypeTree, QSelf, TypeArray, TypeFnPtr, TypeGroup, TypeImplTrait, TypeParen, TypePath, TypePtr, TypeReference, TypeSlice, TypeTraitObject, TypeTuple, NamedArg, ReturnType}
-use Rattle.syn_walk.specs.walk.Nodes.{Visited, Visits, With, a_type, a_path, a_macro_path, a_lifetime, lifetime, lifetime_param, capture, inputs_by, output_by, parenthesized_by, qself_by, default_by, reference_by, binder_by, generics_by, typed, within, plain, plain_segment, path_by, param_step, bound_step, argument_step, arguments_step, inside_step, trait_bound_step, type_param_step, assoc_type_step, constraint_step, fn_ptr_step, path_type_step, param, bound, argument, arguments, inside, trait_bound, type_param, assoc_type, constraint, fn_ptr, path_type, ty, path, reference, inputs, output, parenthesized, generics, binder}
+use Rattle.syn_walk.specs.walk.Nodes.{Visited, Visits, With, a_type, a_path, macro_path, attributes, lifetime, lifetime_param, capture, variadic, inputs_by, output_by, parenthesized_by, default_by, reference_by, binder_by, generics_by, typed, bounded, argued, within, plain, plain_segment, path_by, of_trait, of_item, fewer, segments_by, named_by, param_step, bound_step, argument_step, arguments_step, inside_step, trait_bound_step, type_param_step, assoc_type_step, constraint_step, fn_ptr_step, path_type_step, param, inside_bound, bound, inside_argument, argument, arguments, inside, trait_bound, type_param, assoc_type, constraint, fn_ptr, path_type, ty, path, named, reference, inputs, output, parenthesized, generics, binder}
 
 -- what is in the elements of a list that was mapped
-each_map : {T U B : Type 0} (f : U → List B) (g : T → U) (l : List T) → each f (map g l) ≡ each (λ x. f (g x)) l
+pub each_map : {T U B : Type 0} (f : U → List B) (g : T → U) (l : List T) → each f (map g l) ≡ each (λ x. f (g x)) l
 each_map f g [] = refl
 each_map f g (x ∷ l) = ap (λ r. f (g x) ++ r) (each_map f g l)
 
@@ -62,95 +62,98 @@ module _ {A E : Type 0} where
   -- ---- one layer whose trees are beside what is in them
 
   abbrev beside : (F : Family) → Mapping A E F → Layer F A E → With F A E
-  beside F m = m _ _ _ _ _ _ _ _ _ _ _ _ _ _ _ _ _ _ _ _ _ _ (λ x. (x, param x)) (λ x. (x, bound x)) (λ x. (x, argument x)) (λ x. (x, arguments x)) (λ x. (x, inside x)) (λ x. (x, trait_bound x)) (λ x. (x, type_param x)) (λ x. (x, assoc_type x)) (λ x. (x, constraint x)) (λ x. (x, fn_ptr x)) (λ x. (x, path_type x))
+  beside F m = m _ _ _ _ _ _ _ _ _ _ _ _ _ _ _ _ _ _ _ _ _ _ (λ x. (x, param x)) (λ x. (x, inside_bound x)) (λ x. (x, inside_argument x)) (λ x. (x, arguments x)) (λ x. (x, inside x)) (λ x. (x, trait_bound x)) (λ x. (x, type_param x)) (λ x. (x, assoc_type x)) (λ x. (x, constraint x)) (λ x. (x, fn_ptr x)) (λ x. (x, path_type x))
 
   by_param : (y : Layer o.GenericParamOf-F A E) → param (roll-GenericParamOf A E y) ≡ param_step (beside o.GenericParamOf-F (map-GenericParamOf A E) y)
-  unfolding param bound argument arguments inside trait_bound type_param assoc_type constraint fn_ptr path_type
+  unfolding param inside_bound inside_argument arguments inside trait_bound type_param assoc_type constraint fn_ptr path_type
   by_param y = para-roll-GenericParamOf A E _ _ _ _ _ _ _ _ _ _ _ param_step bound_step argument_step arguments_step inside_step trait_bound_step type_param_step assoc_type_step constraint_step fn_ptr_step path_type_step y
 
-  by_bound : (y : Layer o.TypeParamBoundOf-F A E) → bound (roll-TypeParamBoundOf A E y) ≡ bound_step (beside o.TypeParamBoundOf-F (map-TypeParamBoundOf A E) y)
-  unfolding param bound argument arguments inside trait_bound type_param assoc_type constraint fn_ptr path_type
+  by_bound : (y : Layer o.TypeParamBoundOf-F A E) → inside_bound (roll-TypeParamBoundOf A E y) ≡ bound_step (beside o.TypeParamBoundOf-F (map-TypeParamBoundOf A E) y)
+  unfolding param inside_bound inside_argument arguments inside trait_bound type_param assoc_type constraint fn_ptr path_type
   by_bound y = para-roll-TypeParamBoundOf A E _ _ _ _ _ _ _ _ _ _ _ param_step bound_step argument_step arguments_step inside_step trait_bound_step type_param_step assoc_type_step constraint_step fn_ptr_step path_type_step y
 
-  by_argument : (y : Layer o.GenericArgumentOf-F A E) → argument (roll-GenericArgumentOf A E y) ≡ argument_step (beside o.GenericArgumentOf-F (map-GenericArgumentOf A E) y)
-  unfolding param bound argument arguments inside trait_bound type_param assoc_type constraint fn_ptr path_type
+  by_argument : (y : Layer o.GenericArgumentOf-F A E) → inside_argument (roll-GenericArgumentOf A E y) ≡ argument_step (beside o.GenericArgumentOf-F (map-GenericArgumentOf A E) y)
+  unfolding param inside_bound inside_argument arguments inside trait_bound type_param assoc_type constraint fn_ptr path_type
   by_argument y = para-roll-GenericArgumentOf A E _ _ _ _ _ _ _ _ _ _ _ param_step bound_step argument_step arguments_step inside_step trait_bound_step type_param_step assoc_type_step constraint_step fn_ptr_step path_type_step y
 
   by_arguments : (y : Layer o.PathArgumentsOf-F A E) → arguments (roll-PathArgumentsOf A E y) ≡ arguments_step (beside o.PathArgumentsOf-F (map-PathArgumentsOf A E) y)
-  unfolding param bound argument arguments inside trait_bound type_param assoc_type constraint fn_ptr path_type
+  unfolding param inside_bound inside_argument arguments inside trait_bound type_param assoc_type constraint fn_ptr path_type
   by_arguments y = para-roll-PathArgumentsOf A E _ _ _ _ _ _ _ _ _ _ _ param_step bound_step argument_step arguments_step inside_step trait_bound_step type_param_step assoc_type_step constraint_step fn_ptr_step path_type_step y
 
   by_inside : (y : Layer o.TypeOf-F A E) → inside (roll-TypeOf A E y) ≡ inside_step (beside o.TypeOf-F (map-TypeOf A E) y)
-  unfolding param bound argument arguments inside trait_bound type_param assoc_type constraint fn_ptr path_type
+  unfolding param inside_bound inside_argument arguments inside trait_bound type_param assoc_type constraint fn_ptr path_type
   by_inside y = para-roll-TypeOf A E _ _ _ _ _ _ _ _ _ _ _ param_step bound_step argument_step arguments_step inside_step trait_bound_step type_param_step assoc_type_step constraint_step fn_ptr_step path_type_step y
 
   by_trait_bound : (y : Layer o.TraitBoundOf-F A E) → trait_bound (roll-TraitBoundOf A E y) ≡ trait_bound_step (beside o.TraitBoundOf-F (map-TraitBoundOf A E) y)
-  unfolding param bound argument arguments inside trait_bound type_param assoc_type constraint fn_ptr path_type
+  unfolding param inside_bound inside_argument arguments inside trait_bound type_param assoc_type constraint fn_ptr path_type
   by_trait_bound y = para-roll-TraitBoundOf A E _ _ _ _ _ _ _ _ _ _ _ param_step bound_step argument_step arguments_step inside_step trait_bound_step type_param_step assoc_type_step constraint_step fn_ptr_step path_type_step y
 
   by_type_param : (y : Layer o.TypeParamOf-F A E) → type_param (roll-TypeParamOf A E y) ≡ type_param_step (beside o.TypeParamOf-F (map-TypeParamOf A E) y)
-  unfolding param bound argument arguments inside trait_bound type_param assoc_type constraint fn_ptr path_type
+  unfolding param inside_bound inside_argument arguments inside trait_bound type_param assoc_type constraint fn_ptr path_type
   by_type_param y = para-roll-TypeParamOf A E _ _ _ _ _ _ _ _ _ _ _ param_step bound_step argument_step arguments_step inside_step trait_bound_step type_param_step assoc_type_step constraint_step fn_ptr_step path_type_step y
 
   by_assoc_type : (y : Layer o.AssocTypeOf-F A E) → assoc_type (roll-AssocTypeOf A E y) ≡ assoc_type_step (beside o.AssocTypeOf-F (map-AssocTypeOf A E) y)
-  unfolding param bound argument arguments inside trait_bound type_param assoc_type constraint fn_ptr path_type
+  unfolding param inside_bound inside_argument arguments inside trait_bound type_param assoc_type constraint fn_ptr path_type
   by_assoc_type y = para-roll-AssocTypeOf A E _ _ _ _ _ _ _ _ _ _ _ param_step bound_step argument_step arguments_step inside_step trait_bound_step type_param_step assoc_type_step constraint_step fn_ptr_step path_type_step y
 
   by_constraint : (y : Layer o.ConstraintOf-F A E) → constraint (roll-ConstraintOf A E y) ≡ constraint_step (beside o.ConstraintOf-F (map-ConstraintOf A E) y)
-  unfolding param bound argument arguments inside trait_bound type_param assoc_type constraint fn_ptr path_type
+  unfolding param inside_bound inside_argument arguments inside trait_bound type_param assoc_type constraint fn_ptr path_type
   by_constraint y = para-roll-ConstraintOf A E _ _ _ _ _ _ _ _ _ _ _ param_step bound_step argument_step arguments_step inside_step trait_bound_step type_param_step assoc_type_step constraint_step fn_ptr_step path_type_step y
 
   by_fn_ptr : (y : Layer o.TypeFnPtrOf-F A E) → fn_ptr (roll-TypeFnPtrOf A E y) ≡ fn_ptr_step (beside o.TypeFnPtrOf-F (map-TypeFnPtrOf A E) y)
-  unfolding param bound argument arguments inside trait_bound type_param assoc_type constraint fn_ptr path_type
+  unfolding param inside_bound inside_argument arguments inside trait_bound type_param assoc_type constraint fn_ptr path_type
   by_fn_ptr y = para-roll-TypeFnPtrOf A E _ _ _ _ _ _ _ _ _ _ _ param_step bound_step argument_step arguments_step inside_step trait_bound_step type_param_step assoc_type_step constraint_step fn_ptr_step path_type_step y
 
   by_path_type : (y : Layer o.TypePathOf-F A E) → path_type (roll-TypePathOf A E y) ≡ path_type_step (beside o.TypePathOf-F (map-TypePathOf A E) y)
-  unfolding param bound argument arguments inside trait_bound type_param assoc_type constraint fn_ptr path_type
+  unfolding param inside_bound inside_argument arguments inside trait_bound type_param assoc_type constraint fn_ptr path_type
   by_path_type y = para-roll-TypePathOf A E _ _ _ _ _ _ _ _ _ _ _ param_step bound_step argument_step arguments_step inside_step trait_bound_step type_param_step assoc_type_step constraint_step fn_ptr_step path_type_step y
+
+  bounds_same : (l : List (TypeParamBound A E)) → each bounded (map (λ b. (b, inside_bound b)) l) ≡ each bound l
+  bounds_same l = each_map bounded (λ b. (b, inside_bound b)) l
 
   -- ---- types
 
-  pub in-Array : (x : TypeArray A E) → inside {A = A} {E = E} (v.Array x) ≡ ty x.elem
+  pub in-Array : (x : TypeArray A E) → inside {A = A} {E = E} (v.Array x) ≡ attributes x.attrs ++ ty x.elem
   in-Array x = ap inside (sym (v.rolls-Array x)) ∙ by_inside (o.Array x)
 
   pub in-FnPtr : (x : TypeFnPtr A E) → inside {A = A} {E = E} (v.FnPtr x) ≡ fn_ptr x
   in-FnPtr x = ap inside (sym (v.rolls-FnPtr x)) ∙ by_inside (o.FnPtr x)
 
-  pub in-Group : (x : TypeGroup A E) → inside {A = A} {E = E} (v.Group x) ≡ ty x.elem
+  pub in-Group : (x : TypeGroup A E) → inside {A = A} {E = E} (v.Group x) ≡ attributes x.attrs ++ ty x.elem
   in-Group x = ap inside (sym (v.rolls-Group x)) ∙ by_inside (o.Group x)
 
-  pub in-ImplTrait : (x : TypeImplTrait A E) → inside {A = A} {E = E} (v.ImplTrait x) ≡ each bound x.bounds.0
-  in-ImplTrait x = ap inside (sym (v.rolls-ImplTrait x)) ∙ by_inside (o.ImplTrait x) ∙ each_map within (λ b. (b, bound b)) x.bounds.0
+  pub in-ImplTrait : (x : TypeImplTrait A E) → inside {A = A} {E = E} (v.ImplTrait x) ≡ attributes x.attrs ++ each bound x.bounds.0
+  in-ImplTrait x = ap inside (sym (v.rolls-ImplTrait x)) ∙ by_inside (o.ImplTrait x) ∙ ap (λ r. attributes x.attrs ++ r) (bounds_same x.bounds.0)
 
-  pub in-Infer : (x : TypeInferOf A) → inside {A = A} {E = E} (v.Infer x) ≡ []
+  pub in-Infer : (x : TypeInferOf A) → inside {A = A} {E = E} (v.Infer x) ≡ attributes x.attrs
   in-Infer x = ap inside (sym (v.rolls-Infer x)) ∙ by_inside (o.Infer x)
 
-  pub in-Macro : (x : TypeMacroOf A) → inside {A = A} {E = E} (v.Macro x) ≡ a_macro_path x.mac.path ∷ []
+  pub in-Macro : (x : TypeMacroOf A) → inside {A = A} {E = E} (v.Macro x) ≡ attributes x.attrs ++ macro_path x.mac
   in-Macro x = ap inside (sym (v.rolls-Macro x)) ∙ by_inside (o.Macro x)
 
-  pub in-Never : (x : TypeNeverOf A) → inside {A = A} {E = E} (v.Never x) ≡ []
+  pub in-Never : (x : TypeNeverOf A) → inside {A = A} {E = E} (v.Never x) ≡ attributes x.attrs
   in-Never x = ap inside (sym (v.rolls-Never x)) ∙ by_inside (o.Never x)
 
-  pub in-Paren : (x : TypeParen A E) → inside {A = A} {E = E} (v.Paren x) ≡ ty x.elem
+  pub in-Paren : (x : TypeParen A E) → inside {A = A} {E = E} (v.Paren x) ≡ attributes x.attrs ++ ty x.elem
   in-Paren x = ap inside (sym (v.rolls-Paren x)) ∙ by_inside (o.Paren x)
 
   pub in-Path : (x : TypePath A E) → inside {A = A} {E = E} (v.Path x) ≡ path_type x
   in-Path x = ap inside (sym (v.rolls-Path x)) ∙ by_inside (o.Path x)
 
-  pub in-Ptr : (x : TypePtr A E) → inside {A = A} {E = E} (v.Ptr x) ≡ ty x.elem
+  pub in-Ptr : (x : TypePtr A E) → inside {A = A} {E = E} (v.Ptr x) ≡ attributes x.attrs ++ ty x.elem
   in-Ptr x = ap inside (sym (v.rolls-Ptr x)) ∙ by_inside (o.Ptr x)
 
   pub in-Reference : (x : TypeReference A E) → inside {A = A} {E = E} (v.Reference x) ≡ reference x
   in-Reference x = ap inside (sym (v.rolls-Reference x)) ∙ by_inside (o.Reference x)
 
-  pub in-Slice : (x : TypeSlice A E) → inside {A = A} {E = E} (v.Slice x) ≡ ty x.elem
+  pub in-Slice : (x : TypeSlice A E) → inside {A = A} {E = E} (v.Slice x) ≡ attributes x.attrs ++ ty x.elem
   in-Slice x = ap inside (sym (v.rolls-Slice x)) ∙ by_inside (o.Slice x)
 
-  pub in-TraitObject : (x : TypeTraitObject A E) → inside {A = A} {E = E} (v.TraitObject x) ≡ each bound x.bounds.0
-  in-TraitObject x = ap inside (sym (v.rolls-TraitObject x)) ∙ by_inside (o.TraitObject x) ∙ each_map within (λ b. (b, bound b)) x.bounds.0
+  pub in-TraitObject : (x : TypeTraitObject A E) → inside {A = A} {E = E} (v.TraitObject x) ≡ attributes x.attrs ++ each bound x.bounds.0
+  in-TraitObject x = ap inside (sym (v.rolls-TraitObject x)) ∙ by_inside (o.TraitObject x) ∙ ap (λ r. attributes x.attrs ++ r) (bounds_same x.bounds.0)
 
-  pub in-Tuple : (x : TypeTuple A E) → inside {A = A} {E = E} (v.Tuple x) ≡ each ty x.elems.0
-  in-Tuple x = ap inside (sym (v.rolls-Tuple x)) ∙ by_inside (o.Tuple x) ∙ each_map typed (λ t. (t, inside t)) x.elems.0
+  pub in-Tuple : (x : TypeTuple A E) → inside {A = A} {E = E} (v.Tuple x) ≡ attributes x.attrs ++ each ty x.elems.0
+  in-Tuple x = ap inside (sym (v.rolls-Tuple x)) ∙ by_inside (o.Tuple x) ∙ ap (λ r. attributes x.attrs ++ r) (each_map typed (λ t. (t, inside t)) x.elems.0)
 
   pub in-Verbatim : (x : List TokenTree) → inside {A = A} {E = E} (v.Verbatim x) ≡ []
   in-Verbatim x = ap inside (sym (v.rolls-Verbatim x)) ∙ by_inside (o.TypeOf::Verbatim x)
@@ -167,31 +170,40 @@ module _ {A E : Type 0} where
   plain_same [] = refl
   plain_same (s ∷ l) = ap (λ r. s ∷ r) (plain_same l)
 
+  abbrev path_with : Path A E → List (PathSegment A E) → Path A E
+  path_with p l = record { leading_colon = p.leading_colon; segments = (l, p.segments.1) }
+
   path_same : (p : Path A E) → path_by (path_on p) ≡ path p
   path_same p =
-      ap (λ l. a_path (record { leading_colon = p.leading_colon; segments = (l, p.segments.1) }) ∷ each (λ s. within s.arguments) (map segment_on p.segments.0)) (plain_same p.segments.0)
+      ap (λ l. a_path (path_with p l) ∷ each (λ s. within s.arguments) (map segment_on p.segments.0)) (plain_same p.segments.0)
       ∙ ap (λ r. a_path p ∷ r) (each_map (λ s. within s.arguments) segment_on p.segments.0)
+
+  segments_same : (p : Path A E) (n : ℕ) (left : Option ℕ) (l : List (PathSegment A E)) → segments_by within p n left (map segment_on l) ≡ segments_by arguments p n left l
+  segments_same p n left [] = refl
+  segments_same p n left (s ∷ l) = ap (λ r. of_item p n left ++ (arguments s.arguments ++ r)) (segments_same p n (fewer left) l)
+
+  named_same : (n : ℕ) (p : Path A E) → of_trait (plain (path_on p)) n ++ segments_by within (plain (path_on p)) n (Some n) (map segment_on p.segments.0) ≡ of_trait p n ++ segments_by arguments p n (Some n) p.segments.0
+  named_same n p =
+      ap (λ l. of_trait (path_with p l) n ++ segments_by within (path_with p l) n (Some n) (map segment_on p.segments.0)) (plain_same p.segments.0)
+      ∙ ap (λ r. of_trait p n ++ r) (segments_same p n (Some n) p.segments.0)
 
   abbrev arg_on : NamedArg A E → NamedArgOf (TypeTree A E × Visits A E) A
   arg_on x = record { attrs = x.attrs; name = x.name; ty = (x.ty, inside x.ty) }
 
   inputs_same : (l : List (NamedArg A E)) → inputs_by typed (map arg_on l) ≡ inputs l
-  inputs_same l = each_map (λ x. typed x.ty) arg_on l
-
-  bounds_same : (l : List (TypeParamBound A E)) → each within (map (λ b. (b, bound b)) l) ≡ each bound l
-  bounds_same l = each_map within (λ b. (b, bound b)) l
+  inputs_same l = each_map (λ x. attributes x.attrs ++ typed x.ty) arg_on l
 
   params_same : (l : List (GenericParam A E)) → each within (map (λ g. (g, param g)) l) ≡ each param l
   params_same l = each_map within (λ g. (g, param g)) l
 
-  args_same : (l : List (GenericArgument A E)) → each within (map (λ g. (g, argument g)) l) ≡ each argument l
-  args_same l = each_map within (λ g. (g, argument g)) l
+  args_same : (l : List (GenericArgument A E)) → each argued (map (λ g. (g, inside_argument g)) l) ≡ each argument l
+  args_same l = each_map argued (λ g. (g, inside_argument g)) l
 
-  path_type_parts : (a : List A) (q : Option (QSelf A E)) (z : Path A E) → path_type (roll-TypePathOf A E (record { attrs = a; qself = q; path = z })) ≡ qself_by ty q ++ path z
-  path_type_parts a None z = by_path_type (record { attrs = a; qself = None; path = z }) ∙ path_same z
-  path_type_parts a (Some q) z = by_path_type (record { attrs = a; qself = Some q; path = z }) ∙ ap (λ r. ty q.ty ++ r) (path_same z)
+  path_type_parts : (a : List A) (q : Option (QSelf A E)) (z : Path A E) → path_type (roll-TypePathOf A E (record { attrs = a; qself = q; path = z })) ≡ attributes a ++ named q z
+  path_type_parts a None z = by_path_type (record { attrs = a; qself = None; path = z }) ∙ ap (λ r. attributes a ++ r) (path_same z)
+  path_type_parts a (Some q) z = by_path_type (record { attrs = a; qself = Some q; path = z }) ∙ ap (λ r. attributes a ++ (ty q.ty ++ r)) (named_same q.position z)
 
-  pub in_path_type : (x : TypePath A E) → path_type x ≡ qself_by ty (out-TypePathOf A E x).qself ++ path (out-TypePathOf A E x).path
+  pub in_path_type : (x : TypePath A E) → path_type x ≡ attributes (out-TypePathOf A E x).attrs ++ named (out-TypePathOf A E x).qself (out-TypePathOf A E x).path
   in_path_type x = let f = out-TypePathOf A E x in ap path_type (sym (roll-out-TypePathOf A E x)) ∙ path_type_parts f.attrs f.qself f.path
 
   -- ---- bounds and parameters
@@ -202,27 +214,27 @@ module _ {A E : Type 0} where
   pub in-param-Type : (x : TypeParam A E) → param (g.«Type» x) ≡ type_param x
   in-param-Type x = ap param (sym (g.rolls-Type x)) ∙ by_param (o.GenericParamOf::Type x)
 
-  pub in-param-Const : (x : ConstParam A E) → param (g.Const x) ≡ ty x.ty
+  pub in-param-Const : (x : ConstParam A E) → param (g.Const x) ≡ attributes x.attrs ++ ty x.ty
   in-param-Const x = ap param (sym (g.rolls-Const x)) ∙ by_param (o.GenericParamOf::Const x)
 
-  type_param_parts : (a : List A) (i : Ident) (c : Option Colon) (l : Many (TypeParamBound A E) Plus) (d : Option (Eq × TypeTree A E)) → type_param (type_param_of a i c l d) ≡ each bound l.0 ++ default_by ty d
-  type_param_parts a i c l None = by_type_param (record { attrs = a; ident = i; colon_token = c; bounds = l; default = None }) ∙ ap (λ r. r ++ []) (bounds_same l.0)
-  type_param_parts a i c l (Some d) = by_type_param (record { attrs = a; ident = i; colon_token = c; bounds = l; default = Some d }) ∙ ap (λ r. r ++ ty d.1) (bounds_same l.0)
+  type_param_parts : (a : List A) (i : Ident) (c : Option Colon) (l : Many (TypeParamBound A E) Plus) (d : Option (Eq × TypeTree A E)) → type_param (type_param_of a i c l d) ≡ attributes a ++ (each bound l.0 ++ default_by ty d)
+  type_param_parts a i c l None = by_type_param (record { attrs = a; ident = i; colon_token = c; bounds = l; default = None }) ∙ ap (λ r. attributes a ++ (r ++ [])) (bounds_same l.0)
+  type_param_parts a i c l (Some d) = by_type_param (record { attrs = a; ident = i; colon_token = c; bounds = l; default = Some d }) ∙ ap (λ r. attributes a ++ (r ++ ty d.1)) (bounds_same l.0)
 
-  pub in_type_param : (x : TypeParam A E) → type_param x ≡ each bound (out-TypeParamOf A E x).bounds.0 ++ default_by ty (out-TypeParamOf A E x).default
+  pub in_type_param : (x : TypeParam A E) → type_param x ≡ attributes (out-TypeParamOf A E x).attrs ++ (each bound (out-TypeParamOf A E x).bounds.0 ++ default_by ty (out-TypeParamOf A E x).default)
   in_type_param x = let f = out-TypeParamOf A E x in ap type_param (sym (roll-out-TypeParamOf A E x)) ∙ type_param_parts f.attrs f.ident f.colon_token f.bounds f.default
 
-  pub in-bound-Trait : (x : TraitBound A E) → bound (b.Trait x) ≡ trait_bound x
-  in-bound-Trait x = ap bound (sym (b.rolls-Trait x)) ∙ by_bound (o.Trait x)
+  pub in-bound-Trait : (x : TraitBound A E) → inside_bound (b.Trait x) ≡ trait_bound x
+  in-bound-Trait x = ap inside_bound (sym (b.rolls-Trait x)) ∙ by_bound (o.Trait x)
 
-  pub in-bound-Lifetime : (x : Lifetime) → bound {A = A} {E = E} (b.Lifetime x) ≡ lifetime x
-  in-bound-Lifetime x = ap bound (sym (b.rolls-Lifetime x)) ∙ by_bound (o.TypeParamBoundOf::Lifetime x)
+  pub in-bound-Lifetime : (x : Lifetime) → inside_bound {A = A} {E = E} (b.Lifetime x) ≡ lifetime x
+  in-bound-Lifetime x = ap inside_bound (sym (b.rolls-Lifetime x)) ∙ by_bound (o.TypeParamBoundOf::Lifetime x)
 
-  pub in-bound-PreciseCapture : (x : PreciseCapture) → bound {A = A} {E = E} (b.PreciseCapture x) ≡ capture x
-  in-bound-PreciseCapture x = ap bound (sym (b.rolls-PreciseCapture x)) ∙ by_bound (o.PreciseCapture x)
+  pub in-bound-PreciseCapture : (x : PreciseCapture) → inside_bound {A = A} {E = E} (b.PreciseCapture x) ≡ capture x
+  in-bound-PreciseCapture x = ap inside_bound (sym (b.rolls-PreciseCapture x)) ∙ by_bound (o.PreciseCapture x)
 
-  pub in-bound-Verbatim : (x : List TokenTree) → bound {A = A} {E = E} (b.Verbatim x) ≡ []
-  in-bound-Verbatim x = ap bound (sym (b.rolls-Verbatim x)) ∙ by_bound (o.TypeParamBoundOf::Verbatim x)
+  pub in-bound-Verbatim : (x : List TokenTree) → inside_bound {A = A} {E = E} (b.Verbatim x) ≡ []
+  in-bound-Verbatim x = ap inside_bound (sym (b.rolls-Verbatim x)) ∙ by_bound (o.TypeParamBoundOf::Verbatim x)
 
   trait_bound_parts : (t : Option Paren) (l : Option (BoundLifetimes A E)) (m : TraitBoundModifiers) (q : Option (Mark 22 1)) (z : Path A E) → trait_bound (trait_bound_of t l m q z) ≡ binder l ++ path z
   trait_bound_parts t None m q z = by_trait_bound (record { paren_token = t; lifetimes = None; modifiers = m; maybe = q; path = z }) ∙ path_same z
@@ -250,27 +262,27 @@ module _ {A E : Type 0} where
   pub in-arguments-Parenthesized : (x : Parenthesized A E) → arguments (args.Parenthesized x) ≡ parenthesized x
   in-arguments-Parenthesized x = parens_parts x.paren_token x.inputs x.output
 
-  pub in-argument-Lifetime : (x : Lifetime) → argument {A = A} {E = E} (ga.Lifetime x) ≡ lifetime x
-  in-argument-Lifetime x = ap argument (sym (ga.rolls-Lifetime x)) ∙ by_argument (o.GenericArgumentOf::Lifetime x)
+  pub in-argument-Lifetime : (x : Lifetime) → inside_argument {A = A} {E = E} (ga.Lifetime x) ≡ lifetime x
+  in-argument-Lifetime x = ap inside_argument (sym (ga.rolls-Lifetime x)) ∙ by_argument (o.GenericArgumentOf::Lifetime x)
 
-  pub in-argument-Type : (x : TypeTree A E) → argument (ga.«Type» x) ≡ ty x
-  in-argument-Type x = ap argument (sym (ga.rolls-Type x)) ∙ by_argument (o.GenericArgumentOf::Type x)
+  pub in-argument-Type : (x : TypeTree A E) → inside_argument (ga.«Type» x) ≡ ty x
+  in-argument-Type x = ap inside_argument (sym (ga.rolls-Type x)) ∙ by_argument (o.GenericArgumentOf::Type x)
 
-  pub in-argument-Const : (x : E) → argument {A = A} {E = E} (ga.Const x) ≡ []
-  in-argument-Const x = ap argument (sym (ga.rolls-Const x)) ∙ by_argument (o.GenericArgumentOf::Const x)
+  pub in-argument-Const : (x : E) → inside_argument {A = A} {E = E} (ga.Const x) ≡ []
+  in-argument-Const x = ap inside_argument (sym (ga.rolls-Const x)) ∙ by_argument (o.GenericArgumentOf::Const x)
 
-  pub in-argument-AssocType : (x : AssocType A E) → argument (ga.AssocType x) ≡ assoc_type x
-  in-argument-AssocType x = ap argument (sym (ga.rolls-AssocType x)) ∙ by_argument (o.AssocType x)
+  pub in-argument-AssocType : (x : AssocType A E) → inside_argument (ga.AssocType x) ≡ assoc_type x
+  in-argument-AssocType x = ap inside_argument (sym (ga.rolls-AssocType x)) ∙ by_argument (o.AssocType x)
 
-  assoc_const_parts : (i : Ident) (l : Option (AngleBracketed A E)) (e : Eq) (v : E) → argument (ga.AssocConst (assoc_const_of i l e v)) ≡ generics l
-  assoc_const_parts i None e v = ap argument (sym (ga.rolls-AssocConst (assoc_const_of i None e v))) ∙ by_argument (o.AssocConst (assoc_const_of i None e v))
-  assoc_const_parts i (Some l) e v = ap argument (sym (ga.rolls-AssocConst (assoc_const_of i (Some l) e v))) ∙ by_argument (o.AssocConst (assoc_const_of i (Some l) e v)) ∙ args_same l.args.0
+  assoc_const_parts : (i : Ident) (l : Option (AngleBracketed A E)) (e : Eq) (v : E) → inside_argument (ga.AssocConst (assoc_const_of i l e v)) ≡ generics l
+  assoc_const_parts i None e v = ap inside_argument (sym (ga.rolls-AssocConst (assoc_const_of i None e v))) ∙ by_argument (o.AssocConst (assoc_const_of i None e v))
+  assoc_const_parts i (Some l) e v = ap inside_argument (sym (ga.rolls-AssocConst (assoc_const_of i (Some l) e v))) ∙ by_argument (o.AssocConst (assoc_const_of i (Some l) e v)) ∙ args_same l.args.0
 
-  pub in-argument-AssocConst : (x : AssocConst A E) → argument (ga.AssocConst x) ≡ generics x.generics
+  pub in-argument-AssocConst : (x : AssocConst A E) → inside_argument (ga.AssocConst x) ≡ generics x.generics
   in-argument-AssocConst x = assoc_const_parts x.ident x.generics x.eq_token x.value
 
-  pub in-argument-Constraint : (x : Constraint A E) → argument (ga.Constraint x) ≡ constraint x
-  in-argument-Constraint x = ap argument (sym (ga.rolls-Constraint x)) ∙ by_argument (o.Constraint x)
+  pub in-argument-Constraint : (x : Constraint A E) → inside_argument (ga.Constraint x) ≡ constraint x
+  in-argument-Constraint x = ap inside_argument (sym (ga.rolls-Constraint x)) ∙ by_argument (o.Constraint x)
 
   assoc_type_parts : (i : Ident) (l : Option (AngleBracketed A E)) (e : Eq) (t : TypeTree A E) → assoc_type (assoc_type_of i l e t) ≡ generics l ++ ty t
   assoc_type_parts i None e t = by_assoc_type (record { ident = i; generics = None; eq_token = e; ty = t })
@@ -283,7 +295,7 @@ module _ {A E : Type 0} where
   constraint_parts i None c v = by_constraint (record { ident = i; generics = None; colon_token = c; bounds = v }) ∙ bounds_same v.0
   constraint_parts i (Some l) c v =
       by_constraint (record { ident = i; generics = Some l; colon_token = c; bounds = v })
-      ∙ ap (λ r. r ++ each within (map (λ b. (b, bound b)) v.0)) (args_same l.args.0) ∙ ap (λ r. each argument l.args.0 ++ r) (bounds_same v.0)
+      ∙ ap (λ r. r ++ each bounded (map (λ b. (b, inside_bound b)) v.0)) (args_same l.args.0) ∙ ap (λ r. each argument l.args.0 ++ r) (bounds_same v.0)
 
   pub in_constraint : (x : Constraint A E) → constraint x ≡ generics (out-ConstraintOf A E x).generics ++ each bound (out-ConstraintOf A E x).bounds.0
   in_constraint x = let f = out-ConstraintOf A E x in ap constraint (sym (roll-out-ConstraintOf A E x)) ∙ constraint_parts f.ident f.generics f.colon_token f.bounds
@@ -291,23 +303,23 @@ module _ {A E : Type 0} where
   -- ---- pointers to functions
 
   fn_ptr_parts : (b : List A) (l : Option (BoundLifetimes A E)) (u : Option (Word 16)) (a : Option Abi) (w : Word 9) (t : Paren) (v : Many (NamedArg A E) Comma) (m : Option (FnPtrVariadicOf A)) (q : ReturnType A E)
-      → fn_ptr (fn_ptr_with b l u a w t v m q) ≡ binder l ++ (inputs v.0 ++ output q)
+      → fn_ptr (fn_ptr_with b l u a w t v m q) ≡ attributes b ++ (binder l ++ (inputs v.0 ++ (variadic m ++ output q)))
   fn_ptr_parts b None u a w t v m r.Default =
       by_fn_ptr (record { attrs = b; lifetimes = None; unsafety = u; abi = a; fn_token = w; paren_token = t; inputs = v; variadic = m; output = r.Default })
-      ∙ ap (λ z. z ++ []) (inputs_same v.0)
+      ∙ ap (λ z. attributes b ++ (z ++ (variadic m ++ []))) (inputs_same v.0)
   fn_ptr_parts b None u a w t v m (r.«Type» h x) =
       by_fn_ptr (record { attrs = b; lifetimes = None; unsafety = u; abi = a; fn_token = w; paren_token = t; inputs = v; variadic = m; output = r.«Type» h x })
-      ∙ ap (λ z. z ++ ty x) (inputs_same v.0)
+      ∙ ap (λ z. attributes b ++ (z ++ (variadic m ++ ty x))) (inputs_same v.0)
   fn_ptr_parts b (Some l) u a w t v m r.Default =
       by_fn_ptr (record { attrs = b; lifetimes = Some l; unsafety = u; abi = a; fn_token = w; paren_token = t; inputs = v; variadic = m; output = r.Default })
-      ∙ ap (λ z. each within (map (λ g. (g, param g)) l.lifetimes.0) ++ (z ++ [])) (inputs_same v.0)
-      ∙ ap (λ z. z ++ (inputs v.0 ++ [])) (params_same l.lifetimes.0)
+      ∙ ap (λ z. attributes b ++ (each within (map (λ g. (g, param g)) l.lifetimes.0) ++ (z ++ (variadic m ++ [])))) (inputs_same v.0)
+      ∙ ap (λ z. attributes b ++ (z ++ (inputs v.0 ++ (variadic m ++ [])))) (params_same l.lifetimes.0)
   fn_ptr_parts b (Some l) u a w t v m (r.«Type» h x) =
       by_fn_ptr (record { attrs = b; lifetimes = Some l; unsafety = u; abi = a; fn_token = w; paren_token = t; inputs = v; variadic = m; output = r.«Type» h x })
-      ∙ ap (λ z. each within (map (λ g. (g, param g)) l.lifetimes.0) ++ (z ++ ty x)) (inputs_same v.0)
-      ∙ ap (λ z. z ++ (inputs v.0 ++ ty x)) (params_same l.lifetimes.0)
+      ∙ ap (λ z. attributes b ++ (each within (map (λ g. (g, param g)) l.lifetimes.0) ++ (z ++ (variadic m ++ ty x)))) (inputs_same v.0)
+      ∙ ap (λ z. attributes b ++ (z ++ (inputs v.0 ++ (variadic m ++ ty x)))) (params_same l.lifetimes.0)
 
-  pub in_fn_ptr : (x : TypeFnPtr A E) → fn_ptr x ≡ binder (out-TypeFnPtrOf A E x).lifetimes ++ (inputs (out-TypeFnPtrOf A E x).inputs.0 ++ output (out-TypeFnPtrOf A E x).output)
+  pub in_fn_ptr : (x : TypeFnPtr A E) → fn_ptr x ≡ attributes (out-TypeFnPtrOf A E x).attrs ++ (binder (out-TypeFnPtrOf A E x).lifetimes ++ (inputs (out-TypeFnPtrOf A E x).inputs.0 ++ (variadic (out-TypeFnPtrOf A E x).variadic ++ output (out-TypeFnPtrOf A E x).output)))
   in_fn_ptr x = let f = out-TypeFnPtrOf A E x in ap fn_ptr (sym (roll-out-TypeFnPtrOf A E x)) ∙ fn_ptr_parts f.attrs f.lifetimes f.unsafety f.abi f.fn_token f.paren_token f.inputs f.variadic f.output
 
 pub ruleset walks = (

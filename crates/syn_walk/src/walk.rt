@@ -1,46 +1,76 @@
-//! The types, paths and lifetimes in a tree, in order of writing.
+//! The nodes of a tree, in order of writing.
 
 pub mod add;
+pub mod attr;
 pub mod generics;
+pub mod path;
+pub mod pattern;
+pub mod ty;
 
 ghost use Rattle.std.specs.Prelude.{◌≡◌, ◌++◌, OnOk, IfOk};
-ghost use Rattle.token_core.specs.Prints.{each};
+ghost use Rattle.token_core.specs.Prints.{each, optional};
 ghost use Rattle.syn_walk.specs.walk.Nodes as spec;
 ghost use Rattle.syn_walk.specs.walk.Printing.{printed};
-ghost use Rattle.syn_walk.specs.walk.Nodes.{Visits, seen};
+ghost use Rattle.syn_walk.specs.walk.Nodes.{Visits, saw, seen};
 
-use crate::walk::add::{add_bound, add_fn_ptr, add_param, add_path, add_type};
+use crate::walk::add::add_attributes;
 use std::alloc::{AllocError, Global};
+use syn_attr::attr::MetaList;
 use syn_path::path::{ModPath, PathOf, PathStyle, print_mod_path};
 use syn_path::supplied::{Attributes, Value};
-use syn_ty::generics::{GenericParamOf, TypeParamBoundOf};
-use syn_ty::path::PathArgumentsOf;
+use syn_ty::generics::TypeParamBoundOf;
 use syn_ty::path::print::print_path;
-use syn_ty::ty::print::print_type;
-use syn_ty::ty::{TypeFnPtrOf, TypeOf};
-use token_core::{Items, Lifetime, Punctuated, ToTokens, TokenStream};
+use syn_ty::path::{GenericArgumentOf, PathArgumentsOf};
+use syn_ty::ty::TypeOf;
+use syn_ty::ty::print::{print_type, print_verbatim};
+use token_core::{Ident, Items, Lifetime, Punctuated, ToTokens, TokenStream};
 
 /// A node of a tree.
 #[derive(Clone, Copy)]
 pub enum NodeOf<'a, A, E> {
     Type(&'a TypeOf<A, E>),
-    /// The path of a type or a bound.
+    /// A path of a type, a bound or a pattern.
     Path(&'a PathOf<PathArgumentsOf<A, E>>),
-    /// The path of a macro call in the place of a type.
+    /// Of a path that a type qualifies the segments before the `>`, which name the trait: so many.
+    TraitPath(&'a PathOf<PathArgumentsOf<A, E>>, usize),
+    /// Of such a path the segments after the `>`, before which so many stand.
+    ItemPath(&'a PathOf<PathArgumentsOf<A, E>>, usize),
+    /// The path of a macro call.
     MacroPath(&'a ModPath),
     Lifetime(&'a Lifetime),
+    Bound(&'a TypeParamBoundOf<A, E>),
+    /// An argument between angle marks.
+    Argument(&'a GenericArgumentOf<A, E>),
+    Attribute(&'a A),
+    /// A path of mod style: the one that a meta begins with, or one by itself.
+    ModPath(&'a ModPath),
+    /// What stands in the brackets of a meta.
+    MetaArguments(&'a MetaList),
+    /// What stands after the `=` of a meta.
+    Value(&'a E),
+    /// The name that a pattern binds; whether by reference, and whether mutable.
+    Binding(&'a Ident, bool, bool),
 }
 
-/// Appends the print of what the node lends.
-impl<A: Attributes, E: Value> ToTokens for NodeOf<'_, A, E> {
-    ghost print = { printed A.shown E.values };
+/// Appends the print of what the node lends: of a binding its name, of each part of a path that a type qualifies the path.
+impl<A: Attributes + ToTokens, E: Value + ToTokens> ToTokens for NodeOf<'_, A, E> {
+    ghost print = { λ node. printed A.print E.print A.shown E.values (saw node) };
 
     fn append_tokens(&self, alloc: Global, out: &mut TokenStream) -> Result<(), AllocError> {
         match self {
             NodeOf::Type(ty) => print_type(alloc, ty, out),
             NodeOf::Path(path) => print_path(alloc, path, PathStyle::AsWritten, out),
+            NodeOf::TraitPath(path, _) => print_path(alloc, path, PathStyle::AsWritten, out),
+            NodeOf::ItemPath(path, _) => print_path(alloc, path, PathStyle::AsWritten, out),
             NodeOf::MacroPath(path) => print_mod_path(alloc, path, out),
             NodeOf::Lifetime(lifetime) => lifetime.append_tokens(alloc, out),
+            NodeOf::Bound(bound) => bound.append_tokens(alloc, out),
+            NodeOf::Argument(argument) => argument.append_tokens(alloc, out),
+            NodeOf::Attribute(attribute) => attribute.append_tokens(alloc, out),
+            NodeOf::ModPath(path) => print_mod_path(alloc, path, out),
+            NodeOf::MetaArguments(list) => print_verbatim(alloc, &list.tokens, out),
+            NodeOf::Value(value) => value.append_tokens(alloc, out),
+            NodeOf::Binding(name, _, _) => name.append_tokens(alloc, out),
         }
     }
 }
@@ -55,10 +85,13 @@ pub trait Walk<A, E> {
         ensures { OnOk result (seen out.new ≡ seen out.old ++ visits self.now) };
 }
 
-/// The nodes of a tree in order of writing: each type, itself too, before what it holds; each path of a type or a bound, before its
-/// arguments and after the type that qualifies it; the path of each macro call in the place of a type; each lifetime.
+/// The nodes of a tree in order of writing, each before what it holds: each type, itself too; each bound, and each argument between
+/// angle marks; each path of a type, a bound or a pattern, of one that a
+/// type qualifies the segments before the `>` and those after it, behind that type; the path of each macro call in the place of
+/// a type or a pattern; each lifetime; each attribute; each name that a pattern binds. Of a meta its path, its arguments, its value.
 ///
-/// What attributes, expressions, macro calls and tokens held as written hold is not looked into. It is refused for want of memory alone.
+/// What expressions, macro calls, and tokens held as written hold is not looked into, nor what attributes hold: that has the walk of their
+/// metas. It is refused for want of memory alone.
 pub fn nodes<A, E, T: Walk<A, E>>(
     alloc: Global,
     tree: &T,
@@ -68,46 +101,6 @@ pub fn nodes<A, E, T: Walk<A, E>>(
     let mut out = Items::new(alloc);
     tree.add_nodes(&mut out)?;
     Ok(out)
-}
-
-impl<A, E> Walk<A, E> for TypeOf<A, E> {
-    ghost visits = { spec.ty };
-
-    fn add_nodes<'a>(&'a self, out: &mut Items<NodeOf<'a, A, E>>) -> Result<(), AllocError> {
-        add_type(self, out)
-    }
-}
-
-impl<A, E> Walk<A, E> for TypeFnPtrOf<A, E> {
-    ghost visits = { spec.fn_ptr };
-
-    fn add_nodes<'a>(&'a self, out: &mut Items<NodeOf<'a, A, E>>) -> Result<(), AllocError> {
-        add_fn_ptr(self, out)
-    }
-}
-
-impl<A, E> Walk<A, E> for PathOf<PathArgumentsOf<A, E>> {
-    ghost visits = { spec.path };
-
-    fn add_nodes<'a>(&'a self, out: &mut Items<NodeOf<'a, A, E>>) -> Result<(), AllocError> {
-        add_path(self, out)
-    }
-}
-
-impl<A, E> Walk<A, E> for TypeParamBoundOf<A, E> {
-    ghost visits = { spec.bound };
-
-    fn add_nodes<'a>(&'a self, out: &mut Items<NodeOf<'a, A, E>>) -> Result<(), AllocError> {
-        add_bound(self, out)
-    }
-}
-
-impl<A, E> Walk<A, E> for GenericParamOf<A, E> {
-    ghost visits = { spec.param };
-
-    fn add_nodes<'a>(&'a self, out: &mut Items<NodeOf<'a, A, E>>) -> Result<(), AllocError> {
-        add_param(self, out)
-    }
 }
 
 /// The nodes of each, in order.
@@ -120,5 +113,27 @@ impl<A, E, T: Walk<A, E>, P> Walk<A, E> for Punctuated<T, P> {
             value.add_nodes(out)?;
         }
         Ok(())
+    }
+}
+
+/// Attributes.
+impl<A, E> Walk<A, E> for Items<A> {
+    ghost visits = { spec.attributes };
+
+    fn add_nodes<'a>(&'a self, out: &mut Items<NodeOf<'a, A, E>>) -> Result<(), AllocError> {
+        add_attributes(self, out)
+    }
+}
+
+/// The nodes of what may be there.
+impl<A, E, T: Walk<A, E>> Walk<A, E> for Option<T> {
+    ghost visits = { optional T.visits };
+
+    #[tactic(auto, using(crate::proofs::Walks::walks))]
+    fn add_nodes<'a>(&'a self, out: &mut Items<NodeOf<'a, A, E>>) -> Result<(), AllocError> {
+        match self {
+            None => Ok(()),
+            Some(tree) => tree.add_nodes(out),
+        }
     }
 }

@@ -7,14 +7,14 @@ use Rattle.syn_generics.specs.declared.generics.PredicateTypeOf.{PredicateTypeOf
 use Rattle.syn_generics.specs.declared.generics.WhereClauseOf.{WhereClauseOf}
 use Rattle.syn_generics.specs.declared.generics.WherePredicateOf.{WherePredicateOf}
 use Rattle.syn_generics.specs.declared.generics.WherePredicateOf.TheVariants as w
-use Rattle.syn_walk.specs.walk.Nodes.{Visits, a_lifetime, lifetime, ty, bound, param, binder}
+use Rattle.syn_walk.specs.walk.Nodes.{Visits, a_lifetime, attributes, lifetime, ty, bound, param, binder}
 
 module _ {A E : Type 0} where
   abbrev pub predicate_lifetime : PredicateLifetimeOf A → Visits A E
-  predicate_lifetime x = a_lifetime x.lifetime ∷ each lifetime x.bounds.0
+  predicate_lifetime x = attributes x.attrs ++ (a_lifetime x.lifetime ∷ each lifetime x.bounds.0)
 
   abbrev pub predicate_type : PredicateTypeOf A E → Visits A E
-  predicate_type x = binder x.lifetimes ++ (ty x.bounded_ty ++ each bound x.bounds.0)
+  predicate_type x = attributes x.attrs ++ (binder x.lifetimes ++ (ty x.bounded_ty ++ each bound x.bounds.0))
 
   abbrev pub predicate : WherePredicateOf A E → Visits A E
   predicate (w.Lifetime x) = predicate_lifetime x
