@@ -124,8 +124,8 @@ uint32_t kulojenta_read(const uint8_t *reader, size_t reader_len, const uint8_t 
 
 /* Reads so, and writes the nodes of what was read to nodes, each before what it holds, in the order in which they are written; or why there are none
    to out. Where there are some, the report's kind is KULOJENTA_NONE and its bytes are their number, that of all where their room is short. */
-uint32_t kulojenta_nodes(const uint8_t *reader, size_t reader_len, const uint8_t *text, size_t text_len, kulojenta_node *nodes, size_t nodes_len, uint8_t *out,
-                         size_t out_len, kulojenta_report *report);
+uint32_t kulojenta_nodes(const uint8_t *reader, size_t reader_len, const uint8_t *text, size_t text_len, size_t limit, kulojenta_node *nodes,
+                         size_t nodes_len, uint8_t *out, size_t out_len, kulojenta_report *report);
 
 /* Writes `NAME:LINE:COLUMN: MESSAGE`, the line of the text, and marks under the place from start to end, to out. */
 uint32_t kulojenta_note(const uint8_t *name, size_t name_len, const uint8_t *text, size_t text_len, const uint8_t *message, size_t message_len, size_t start,
@@ -172,15 +172,15 @@ static inline uint32_t kulojenta_note_or_null(const uint8_t *name, size_t name_l
                           kulojenta_room(out, &none), out_len, report);
 }
 
-static inline uint32_t kulojenta_nodes_or_null(const uint8_t *reader, size_t reader_len, const uint8_t *text, size_t text_len, kulojenta_node *nodes,
-                                               size_t nodes_len, uint8_t *out, size_t out_len, kulojenta_report *report) {
+static inline uint32_t kulojenta_nodes_or_null(const uint8_t *reader, size_t reader_len, const uint8_t *text, size_t text_len, size_t limit,
+                                               kulojenta_node *nodes, size_t nodes_len, uint8_t *out, size_t out_len, kulojenta_report *report) {
     uint8_t none = 0;
     kulojenta_node no_node = {0, 0, 0};
     if (report == NULL || kulojenta_lacks(reader, reader_len) || kulojenta_lacks(text, text_len) || kulojenta_lacks(nodes, nodes_len) ||
         kulojenta_lacks(out, out_len)) {
         return KULOJENTA_NULL;
     }
-    return kulojenta_nodes(kulojenta_given(reader), reader_len, kulojenta_given(text), text_len, nodes == NULL ? &no_node : nodes, nodes_len,
+    return kulojenta_nodes(kulojenta_given(reader), reader_len, kulojenta_given(text), text_len, limit, nodes == NULL ? &no_node : nodes, nodes_len,
                            kulojenta_room(out, &none), out_len, report);
 }
 

@@ -42,7 +42,7 @@ static kulojenta_node nodes[16];
 static uint32_t finds(const char *reader, const char *text, size_t room) {
     memset(out, '.', sizeof out);
     memset(nodes, 0xff, sizeof nodes);
-    return kulojenta_nodes(bytes(reader), strlen(reader), bytes(text), strlen(text), nodes, room, out, sizeof out, &report);
+    return kulojenta_nodes(bytes(reader), strlen(reader), bytes(text), strlen(text), KULOJENTA_LIMIT, nodes, room, out, sizeof out, &report);
 }
 
 static int node_is(size_t i, uint32_t kind, size_t start, size_t end) { return nodes[i].kind == kind && nodes[i].start == start && nodes[i].end == end; }
@@ -111,12 +111,15 @@ static int found_nodes(void) {
                 "the names of a pattern");
     wrong += is(finds("Type", "a b", 16) == KULOJENTA_REFUSED && says("unexpected token") && at(KULOJENTA_UNEXPECTED, 2, 3) && nodes[0].kind == UINT32_MAX,
                 "a type that is refused");
+    wrong += is(kulojenta_nodes(bytes("Type"), 4, bytes("((A))"), 5, 1, nodes, 16, out, sizeof out, &report) == KULOJENTA_REFUSED && says("nested too deep") &&
+                    at(KULOJENTA_NESTED_TOO_DEEP, 1, 2),
+                "nodes of a text above the limit");
     wrong += is(finds("Foo", "a", 16) == KULOJENTA_UNKNOWN_READER && says("unknown reader") && at(KULOJENTA_NO_READER, 0, 0), "no such reader");
-    wrong += is(kulojenta_nodes(bytes("Type"), 4, bytes("A"), 1, NULL, 0, NULL, 0, &report) == KULOJENTA_ROOM_IS_SHORT && report.bytes == 2, "nodes NULL");
+    wrong += is(kulojenta_nodes(bytes("Type"), 4, bytes("A"), 1, 9, NULL, 0, NULL, 0, &report) == KULOJENTA_ROOM_IS_SHORT && report.bytes == 2, "nodes NULL");
     report.bytes = 99;
     memset(out, '.', sizeof out);
-    wrong += is(is_null(kulojenta_nodes(bytes("Type"), 4, bytes("A"), 1, NULL, 2, out, 9, &report)), "nodes NULL that have a length");
-    wrong += is(is_null(kulojenta_nodes(bytes("Type"), 4, bytes("A"), 1, nodes, 2, out, 9, NULL)), "a report of nodes NULL");
+    wrong += is(is_null(kulojenta_nodes(bytes("Type"), 4, bytes("A"), 1, 9, NULL, 2, out, 9, &report)), "nodes NULL that have a length");
+    wrong += is(is_null(kulojenta_nodes(bytes("Type"), 4, bytes("A"), 1, 9, nodes, 2, out, 9, NULL)), "a report of nodes NULL");
     wrong += is(kulojenta_note_from(bytes("a.rs"), 4, 7, bytes("a\nb"), 3, bytes("c"), 1, 2, 3, out, sizeof out, &report) == KULOJENTA_SHOWN &&
                     says("a.rs:8:1: c\nb\n^"),
                 "a note on a text that was cut");

@@ -67,6 +67,7 @@ extern "C" {
         reader_len: usize,
         text: *const u8,
         text_len: usize,
+        limit: usize,
         nodes: *mut NodeAt,
         nodes_len: usize,
         out: *mut u8,
@@ -216,6 +217,15 @@ fn refused(message: String, report: &Report) -> Refusal {
 ///
 /// It is refused as [`read`] is.
 pub fn nodes(reader: &str, text: &str) -> Result<Vec<Node>, Refusal> {
+    nodes_within(reader, text, LIMIT)
+}
+
+/// The same within another limit, as [`read_within`].
+///
+/// # Errors
+///
+/// As of [`read`].
+pub fn nodes_within(reader: &str, text: &str, limit: usize) -> Result<Vec<Node>, Refusal> {
     let mut found = vec![NodeAt::default(); text.len() / 2 + 16];
     let mut out = vec![0; 200];
     loop {
@@ -227,6 +237,7 @@ pub fn nodes(reader: &str, text: &str) -> Result<Vec<Node>, Refusal> {
                 reader.len(),
                 text.as_ptr(),
                 text.len(),
+                limit,
                 found.as_mut_ptr(),
                 found.len(),
                 out.as_mut_ptr(),

@@ -1,6 +1,6 @@
 //! The nodes of what was read, and what the examples make of them.
 
-use kulojenta::{nodes, note_at, read, readers, Kind, NodeKind};
+use kulojenta::{nodes, nodes_within, note_at, read, readers, Kind, NodeKind};
 
 #[allow(dead_code)]
 #[path = "../examples/options.rs"]
@@ -90,6 +90,26 @@ fn refusals_are_those_of_reads() {
             "{reader}"
         );
     }
+}
+
+#[test]
+fn deep_texts_have_no_nodes() {
+    assert_eq!(nodes_within("Type", "((A))", 2).unwrap().len(), 4);
+    let refusal = nodes_within("Type", "((A))", 1).unwrap_err();
+    assert_eq!(
+        (refusal.kind(), refusal.start(), refusal.end()),
+        (Kind::NestedTooDeep, 1, 2)
+    );
+    let refusal = nodes("Type", &"Vec<".repeat(200_000)).unwrap_err();
+    assert_eq!(refusal.kind(), Kind::NestedTooDeep);
+}
+
+#[test]
+fn comments_of_documentation_are_attributes() {
+    let text = "/// A.\n#[b]";
+    let found = nodes("Attribute::parse_outer", text).unwrap();
+    let of = |kind| found.iter().filter(|it| it.kind == kind).count();
+    assert_eq!(of(NodeKind::Attribute), 2);
 }
 
 #[test]

@@ -46,21 +46,22 @@ pub extern "C" fn kulojenta_read(
 }
 
 /// Reads all of a text by the reader of this name, over `VerbatimExpr`, and writes the nodes of what was read to `nodes`, or why there are none
-/// to `out`. Answers the status. Where there are some, `bytes` of the report is how many.
+/// to `out`. A text that nests deeper than `limit` is refused so. Answers the status. Where there are some, `bytes` of the report is how many.
 #[unsafe(no_mangle)]
 pub extern "C" fn kulojenta_nodes(
     alloc: Global,
     reader: &[u8],
     text: &[u8],
+    limit: usize,
     nodes: &mut [NodeAt],
     out: &mut [u8],
     report: &mut Report,
 ) -> u32
-    ensures { found.Reads (found_category verbatim) verbatim.prints reader.now text.now nodes.old nodes.new out.old out.new
+    ensures { found.Reads limit (found_category verbatim) verbatim.prints reader.now text.now nodes.old nodes.new out.old out.new
         (call_of result report.new) }
 {
     told(
-        nodes_into::<VerbatimExpr>(alloc, reader, text, nodes, out),
+        nodes_into::<VerbatimExpr>(alloc, reader, text, limit, nodes, out),
         report,
     )
 }

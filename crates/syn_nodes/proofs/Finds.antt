@@ -10,7 +10,8 @@ use Rattle.token_core.specs.Stream.{started}
 use Rattle.token_core.specs.Toks.{Toks, Bytes, done}
 use Rattle.token_core.specs.Trees.{TokenStream, trees, row, toks}
 use Rattle.token_core.proofs.Rebuilds.{stream-trees}
-use Rattle.token_text.specs.Spelling.{Refused}
+use Rattle.token_text.specs.declared.piece.Docs.{Docs}
+use Rattle.token_text.specs.Spelling.{RefusedWith}
 use Rattle.syn_readers.specs.Readers.{Category, whole_in}
 use Rattle.syn_run.specs.Run.{IsTextOf, RefusedFor, in_text, in_list, by_memory}
 use Rattle.syn_nodes.specs.Found.{Finds, Has, Gets, Replies}
@@ -41,20 +42,23 @@ gets-finds C nodes scope l keeps refuses (Err e) h = λ k. let r = gets-refused 
 
 -- ---- of a text
 
-module _ {A : Type 0} (C : Category A) (nodes : A → List NodeAt) (scope : Span) (text : Bytes) where
-  pub of_unread : (e : Refusal) → (e ≡ out_of_memory) ⊎ Refused text e → Replies C nodes scope text (Err e)
-  of_unread e (inl q) = by_memory e (ap (λ x. x.kind) q)
+module _ {A : Type 0} (docs : Docs) (C : Category A) (nodes : A → List NodeAt) (scope : Span) (text : Bytes) where
+  pub by_no_memory : (e : Refusal) → e.kind ≡ OutOfMemory → Replies docs C nodes scope text (Err e)
+  by_no_memory e q = by_memory e q
+
+  pub of_unread : (e : Refusal) → (e ≡ out_of_memory) ⊎ RefusedWith docs text e → Replies docs C nodes scope text (Err e)
+  of_unread e (inl q) = by_no_memory e (ap (λ x. x.kind) q)
   of_unread e (inr h) = in_text e h
 
-  module _ (c : TokenStream) (is_text : IsTextOf text (trees c)) where
+  module _ (c : TokenStream) (is_text : IsTextOf docs text (trees c)) where
     here : (r : Result (List NodeAt) Refusal) → Finds C nodes scope (toks c) r → Finds C nodes scope (row (trees c) done) r
     here r h = subst (λ l. Finds C nodes scope l r) (stream-trees c done) h
 
-    refused : (k : ErrorKind) (e : Refusal) → e.kind ≡ k → (k ≢ OutOfMemory → RefusedFor C scope text e) → RefusedFor C scope text e
+    refused : (k : ErrorKind) (e : Refusal) → e.kind ≡ k → (k ≢ OutOfMemory → RefusedFor docs C scope text e) → RefusedFor docs C scope text e
     refused OutOfMemory e q h = by_memory e q
     refused _ e q h = h (λ w. cc)
 
-    pub of_found : (r : Result (List NodeAt) Refusal) → Finds C nodes scope (toks c) r → Replies C nodes scope text r
+    pub of_found : (r : Result (List NodeAt) Refusal) → Finds C nodes scope (toks c) r → Replies docs C nodes scope text r
     of_found (Ok s) h =
         let q = here (Ok s) h in
         record { list = trees c; is_text = is_text; tree = q.0; read = q.1; promise = q.2; nodes_are = q.3 }

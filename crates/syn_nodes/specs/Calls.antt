@@ -5,6 +5,7 @@ use Rattle.token_core.specs.Refusal.{Refusal}
 use Rattle.token_core.specs.Toks.{Bytes}
 use Rattle.token_text.specs.Note as note
 use Rattle.token_text.specs.Wholes.{text_end}
+use Rattle.token_text.specs.declared.piece.Docs.TheVariants.{Read}
 use Rattle.syn_path.specs.declared.supplied.Place.{Place}
 use Rattle.syn_readers.specs.Readers.{Category}
 use Rattle.syn_run.specs.Calls as calls
@@ -13,7 +14,7 @@ use Rattle.syn_run.specs.Readers.{Tree}
 use Rattle.syn_run.specs.Table.{named}
 use Rattle.syn_run.specs.declared.call.Call.{Call}
 use Rattle.syn_run.specs.declared.readers.Reader.{Reader}
-use Rattle.syn_nodes.specs.Found.{Replies}
+use Rattle.syn_nodes.specs.Found.{RepliesWithin}
 use Rattle.syn_nodes.specs.Places.{found}
 use Rattle.syn_nodes.specs.Visits.{visits}
 use Rattle.syn_nodes.specs.declared.node.NodeAt.{NodeAt}
@@ -50,14 +51,14 @@ abbrev pub of_answer : Result (List NodeAt) Refusal → Outcome
 of_answer (Ok found) = Ok found
 of_answer (Err e) = Err (refused e)
 
--- what a reader, in the scope of the text's end, comes to
-abbrev pub Answers : {A : Type 0} → Category A → (A → List NodeAt) → Bytes → Outcome → Type 0
-Answers C nodes text outcome = (r : Result (List NodeAt) Refusal) × Replies C nodes (text_end text) text r × (outcome ≡ of_answer r)
+-- what a reader, within a limit and in the scope of the text's end, comes to, where comments of documentation are read
+abbrev pub Answers : {A : Type 0} → ℕ → Category A → (A → List NodeAt) → Bytes → Outcome → Type 0
+Answers limit C nodes text outcome = (r : Result (List NodeAt) Refusal) × RepliesWithin Read limit C nodes (text_end text) text r × (outcome ≡ of_answer r)
 
-module _ {X : Type 0} (of : (r : Reader) → Category (Tree X r)) (prints : Place → X → Print) where
+module _ {X : Type 0} (limit : ℕ) (of : (r : Reader) → Category (Tree X r)) (prints : Place → X → Print) where
   abbrev pub Comes : Option Reader → Bytes → Outcome → Type 0
   Comes None text outcome = outcome ≡ Err unknown
-  Comes (Some r) text outcome = (¬ IsUtf8 text × (outcome ≡ Err not_utf8)) ⊎ Answers (of r) (λ a. found prints (visits r a)) text outcome
+  Comes (Some r) text outcome = (¬ IsUtf8 text × (outcome ≡ Err not_utf8)) ⊎ Answers limit (of r) (λ a. found prints (visits r a)) text outcome
 
   abbrev pub Reads : Bytes → Bytes → List NodeAt → List NodeAt → Bytes → Bytes → Call → Type 0
   Reads name text = Calls (λ outcome. (¬ IsUtf8 name × (outcome ≡ Err unknown)) ⊎ Comes (named name) text outcome) text

@@ -1,5 +1,5 @@
 -- What a read of nodes answers.
-use Rattle.std.specs.Prelude.{◌≡◌, ◌≢◌, List, Option, Some, None, Result, Ok, Err}
+use Rattle.std.specs.Prelude.{◌≡◌, ◌≢◌, ℕ, List, Option, Some, None, Result, Ok, Err}
 use Rattle.token_core.specs.declared.error.ErrorKind.TheVariants.{OutOfMemory}
 use Rattle.token_core.specs.declared.span.Span.{Span}
 use Rattle.token_core.specs.declared.tree.TokenTree.{TokenTree}
@@ -9,7 +9,8 @@ use Rattle.token_core.specs.Stream.{Stream, started}
 use Rattle.token_core.specs.Toks.{Toks, Bytes, done}
 use Rattle.token_core.specs.Trees.{row}
 use Rattle.syn_readers.specs.Readers.{Category, whole_in}
-use Rattle.syn_run.specs.Run.{IsTextOf, RefusedFor}
+use Rattle.token_text.specs.declared.piece.Docs.{Docs}
+use Rattle.syn_run.specs.Run.{IsTextOf, RefusedFor, Within}
 use Rattle.syn_nodes.specs.declared.node.NodeAt.{NodeAt}
 
 -- A read in a scope that answers has the nodes of the tree that the read of the category answers there, and keeps its promise. One that is refused is
@@ -29,15 +30,19 @@ Gets {A = A} read nodes s out new = (a : A) × (read s ≡ Ok (a, new)) × (out 
 
 -- The text is that of a list of which the reader, in a scope, answers a tree, and these are the nodes of that tree. What a whole read promises of the
 -- list and the tree holds.
-pub record Shows {A : Type 0} (C : Category A) (nodes : A → List NodeAt) (scope : Span) (text : Bytes) (found : List NodeAt) : Type 0 where
+pub record Shows {A : Type 0} (docs : Docs) (C : Category A) (nodes : A → List NodeAt) (scope : Span) (text : Bytes) (found : List NodeAt) : Type 0 where
   pub list : List TokenTree
-  pub is_text : IsTextOf text list
+  pub is_text : IsTextOf docs text list
   pub tree : A
   pub read : whole_in C.reader scope (row list done) ≡ Ok tree
   pub promise : C.promise (row list done) (Some tree)
   pub nodes_are : found ≡ nodes tree
 
 -- A read of a text in a scope finds the nodes of the tree that the reader answers, or it is refused as that is, or memory ran out.
-abbrev pub Replies : {A : Type 0} → Category A → (A → List NodeAt) → Span → Bytes → Result (List NodeAt) Refusal → Type 0
-Replies C nodes scope text (Ok found) = Shows C nodes scope text found
-Replies C nodes scope text (Err e) = RefusedFor C scope text e
+abbrev pub Replies : {A : Type 0} → Docs → Category A → (A → List NodeAt) → Span → Bytes → Result (List NodeAt) Refusal → Type 0
+Replies docs C nodes scope text (Ok found) = Shows docs C nodes scope text found
+Replies docs C nodes scope text (Err e) = RefusedFor docs C scope text e
+
+-- The same within a limit of nesting.
+abbrev pub RepliesWithin : {A : Type 0} → Docs → ℕ → Category A → (A → List NodeAt) → Span → Bytes → Result (List NodeAt) Refusal → Type 0
+RepliesWithin docs limit C nodes scope text = Within docs limit text (Replies docs C nodes scope text)

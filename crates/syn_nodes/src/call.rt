@@ -9,7 +9,7 @@ ghost use Rattle.syn_run.specs.Calls as calls;
 ghost use Rattle.syn_run.specs.Table.{named};
 
 use crate::node::NodeAt;
-use crate::read::nodes_of_text;
+use crate::read::nodes_of_text_within;
 use std::alloc::Global;
 use syn_path::supplied::Subtree;
 use syn_run::call::{Call, ROOM_IS_SHORT, number, tell};
@@ -17,20 +17,21 @@ use syn_run::readers::Reader;
 use token_text::{note_from, place_of};
 
 /// Reads all of a text by the reader of this name, over any supplied subtree, and writes the nodes of what was read to the front of the room
-/// for them, or why there are none to the front of the other.
+/// for them, or why there are none to the front of the other. A text that nests deeper than the limit is refused so.
 ///
 /// Where there are some, `bytes` of the call is how many, and its kind is 0; so it is too where the room for them is short.
 pub fn nodes_into<X: Subtree>(
     alloc: Global,
     name: &[u8],
     text: &[u8],
+    limit: usize,
     nodes: &mut [NodeAt],
     out: &mut [u8],
 ) -> Call
-    ensures { spec.Reads (category X.Subtree) X.prints name.now text.now nodes.old nodes.new out.old out.new result }
+    ensures { spec.Reads limit (category X.Subtree) X.prints name.now text.now nodes.old nodes.new out.old out.new result }
 {
     match str::from_utf8(name) {
-        Ok(name) => nodes_named::<X>(alloc, name, text, nodes, out),
+        Ok(name) => nodes_named::<X>(alloc, name, text, limit, nodes, out),
         Err(_) => tell("unknown reader", 2, 1, (0, 0), out),
     }
 }
@@ -39,14 +40,15 @@ fn nodes_named<X: Subtree>(
     alloc: Global,
     name: &str,
     text: &[u8],
+    limit: usize,
     nodes: &mut [NodeAt],
     out: &mut [u8],
 ) -> Call
-    ensures { spec.Calls (spec.Comes (category X.Subtree) X.prints (named name.now) text.now) text.now nodes.old nodes.new out.old
+    ensures { spec.Calls (spec.Comes limit (category X.Subtree) X.prints (named name.now) text.now) text.now nodes.old nodes.new out.old
         out.new result }
 {
     match (Reader::named(name), str::from_utf8(text)) {
-        (Some(reader), Ok(text)) => nodes_by::<X>(alloc, reader, text, nodes, out),
+        (Some(reader), Ok(text)) => nodes_by::<X>(alloc, reader, text, limit, nodes, out),
         (Some(_), Err(_)) => tell("input is not UTF-8", 1, 2, (0, 0), out),
         (None, _) => tell("unknown reader", 2, 1, (0, 0), out),
     }
@@ -56,13 +58,14 @@ fn nodes_by<X: Subtree>(
     alloc: Global,
     reader: Reader,
     text: &str,
+    limit: usize,
     nodes: &mut [NodeAt],
     out: &mut [u8],
 ) -> Call
-    ensures { spec.Calls (spec.Answers (category X.Subtree reader) (λ a. found X.prints (visits reader a)) text.now) text.now nodes.old
+    ensures { spec.Calls (spec.Answers limit (category X.Subtree reader) (λ a. found X.prints (visits reader a)) text.now) text.now nodes.old
         nodes.new out.old out.new result }
 {
-    match nodes_of_text::<X>(alloc, reader, text) {
+    match nodes_of_text_within::<X>(alloc, reader, text, limit) {
         Ok(it) => give(it.as_slice(), nodes),
         Err(refusal) => {
             let kind = 16 + number(refusal.kind());

@@ -20,10 +20,13 @@ pub const TYPE: u32 = 0;
 pub const PATH: u32 = 1;
 /// The path of a macro call.
 pub const MACRO_PATH: u32 = 2;
+
 pub const LIFETIME: u32 = 3;
+
 pub const BOUND: u32 = 4;
 /// An argument between angle marks.
 pub const ARGUMENT: u32 = 5;
+
 pub const ATTRIBUTE: u32 = 6;
 /// A path of mod style: the one that an attribute or a meta begins with, or one by itself.
 pub const MOD_PATH: u32 = 7;

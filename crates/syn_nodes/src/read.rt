@@ -18,52 +18,115 @@ ghost use Rattle.token_core.specs.Prints.{each};
 ghost use Rattle.token_core.specs.Reads.{Fails, Follows, Gives, Parsed};
 ghost use Rattle.token_core.specs.Trees.{toks};
 ghost use Rattle.token_text.specs.Wholes.{text_end};
+ghost use Rattle.token_text.specs.declared.piece.Docs.TheVariants.{Read as documented};
 
-use crate::node::{NodeAt, Parts, places, places_of};
+use crate::node::NodeAt;
+use crate::node::Parts;
+use crate::node::places;
+use crate::node::places_of;
 use item_small::item::BodyOf;
-use item_small::structs::{ItemBodyOf, ItemFieldOf, StructItemOf};
-use std::alloc::{AllocError, Global};
+use item_small::structs::ItemBodyOf;
+use item_small::structs::ItemFieldOf;
+use item_small::structs::StructItemOf;
+use std::alloc::AllocError;
+use std::alloc::Global;
 use std::marker::PhantomData;
-use syn_attr::attr::{Attribute, Meta, MetaList, MetaNameValue};
+use syn_attr::attr::Attribute;
+use syn_attr::attr::Meta;
+use syn_attr::attr::MetaList;
+use syn_attr::attr::MetaNameValue;
 use syn_attr::expr::Expr;
 use syn_forms::nested::Held;
 use syn_forms::places::TypePlace;
 use syn_forms::tokens::PointerMutability;
-use syn_generics::generics::{GenericsOf, WhereClauseOf, WherePredicateOf};
-use syn_parsers::whole::{
-    ImplWithoutPlusOf, ModStyle, ObjectWithoutPlusOf, ParseInner, ParseOptionalAbi,
-    ParseOptionalLifetimesOf, ParseOptionalWhereOf, ParseOuter, ParseTurbofishOf,
-    ReturnWithoutPlusOf, WithoutPlusOf,
-};
+use syn_generics::generics::GenericsOf;
+use syn_generics::generics::WhereClauseOf;
+use syn_generics::generics::WherePredicateOf;
+use syn_parsers::whole::ImplWithoutPlusOf;
+use syn_parsers::whole::ModStyle;
+use syn_parsers::whole::ObjectWithoutPlusOf;
+use syn_parsers::whole::ParseInner;
+use syn_parsers::whole::ParseOptionalAbi;
+use syn_parsers::whole::ParseOptionalLifetimesOf;
+use syn_parsers::whole::ParseOptionalWhereOf;
+use syn_parsers::whole::ParseOuter;
+use syn_parsers::whole::ParseTurbofishOf;
+use syn_parsers::whole::ReturnWithoutPlusOf;
+use syn_parsers::whole::WithoutPlusOf;
 use syn_pat::knot::parse_pat;
 use syn_pat::names::Qualifier;
-use syn_pat::pat::read::{parse_guarded, parse_typed};
-use syn_pat::pat::{PatOver, TypedOver};
+use syn_pat::pat::PatOver;
+use syn_pat::pat::TypedOver;
+use syn_pat::pat::read::parse_guarded;
+use syn_pat::pat::read::parse_typed;
 use syn_pat::place::PatPlace;
-use syn_pat::supplied::{PathArguments, QSelf, Type};
+use syn_pat::supplied::PathArguments;
+use syn_pat::supplied::QSelf;
+use syn_pat::supplied::Type;
 use syn_path::mac::Macro;
-use syn_path::path::{Arguments, NoArguments, PathOf, PathSegmentOf};
-use syn_path::supplied::{Attributes, Subtree, Value};
-use syn_readers::by_name::{GenericsReader, PathReader, TypeReader, taken};
-use syn_run::readers::{PatternReader, Reader};
-use syn_ty::generics::{
-    BoundLifetimesOf, CapturedParam, ConstParamOf, GenericParamOf, LifetimeParamOf, PreciseCapture,
-    TraitBoundOf, TypeParamBoundOf, TypeParamOf,
-};
-use syn_ty::path::{
-    AngleBracketedGenericArgumentsOf, GenericArgumentOf, ParenthesizedGenericArgumentsOf,
-    PathArgumentsOf,
-};
-use syn_ty::ty::{
-    Abi, NamedArgOf, ReturnTypeOf, TypeArrayOf, TypeFnPtrOf, TypeGroupOf, TypeImplTraitOf,
-    TypeInferOf, TypeMacroOf, TypeNeverOf, TypeOf, TypeParenOf, TypePathOf, TypePtrOf,
-    TypeReferenceOf, TypeSliceOf, TypeTraitObjectOf, TypeTupleOf,
-};
+use syn_path::path::Arguments;
+use syn_path::path::NoArguments;
+use syn_path::path::PathOf;
+use syn_path::path::PathSegmentOf;
+use syn_path::supplied::Attributes;
+use syn_path::supplied::Subtree;
+use syn_path::supplied::Value;
+use syn_readers::by_name::GenericsReader;
+use syn_readers::by_name::PathReader;
+use syn_readers::by_name::TypeReader;
+use syn_readers::by_name::taken;
+use syn_run::readers::PatternReader;
+use syn_run::readers::Reader;
+use syn_ty::generics::BoundLifetimesOf;
+use syn_ty::generics::CapturedParam;
+use syn_ty::generics::ConstParamOf;
+use syn_ty::generics::GenericParamOf;
+use syn_ty::generics::LifetimeParamOf;
+use syn_ty::generics::PreciseCapture;
+use syn_ty::generics::TraitBoundOf;
+use syn_ty::generics::TypeParamBoundOf;
+use syn_ty::generics::TypeParamOf;
+use syn_ty::path::AngleBracketedGenericArgumentsOf;
+use syn_ty::path::GenericArgumentOf;
+use syn_ty::path::ParenthesizedGenericArgumentsOf;
+use syn_ty::path::PathArgumentsOf;
+use syn_ty::ty::Abi;
+use syn_ty::ty::NamedArgOf;
+use syn_ty::ty::ReturnTypeOf;
+use syn_ty::ty::TypeArrayOf;
+use syn_ty::ty::TypeFnPtrOf;
+use syn_ty::ty::TypeGroupOf;
+use syn_ty::ty::TypeImplTraitOf;
+use syn_ty::ty::TypeInferOf;
+use syn_ty::ty::TypeMacroOf;
+use syn_ty::ty::TypeNeverOf;
+use syn_ty::ty::TypeOf;
+use syn_ty::ty::TypeParenOf;
+use syn_ty::ty::TypePathOf;
+use syn_ty::ty::TypePtrOf;
+use syn_ty::ty::TypeReferenceOf;
+use syn_ty::ty::TypeSliceOf;
+use syn_ty::ty::TypeTraitObjectOf;
+use syn_ty::ty::TypeTupleOf;
+use syn_walk::walk::NodeOf;
+use syn_walk::walk::Walk;
 use syn_walk::walk::pattern::WalkQualifier;
-use syn_walk::walk::{NodeOf, Walk};
+use token_core::Boxed;
+use token_core::ByParse;
+use token_core::Error;
+use token_core::Items;
+use token_core::Parse;
+use token_core::ParseStream;
+use token_core::Parser;
+use token_core::Punctuated;
+use token_core::Span;
+use token_core::ToTokens;
+use token_core::TokenStream;
 use token_core::token::Comma;
-use token_core::{Boxed, ByParse, Error, Items, Parse, ParseStream, Parser, Punctuated, Span, ToTokens, TokenStream};
-use token_text::lex;
+use token_text::Docs;
+use token_text::check_text;
+use token_text::lex_with;
+
 /// Reads all of a text by a reader, and answers the nodes of what was read, in order of writing: over any supplied subtree. It is refused as
 /// `read_text` of `syn_run` is.
 pub fn nodes_of_text<X: Subtree>(
@@ -71,10 +134,24 @@ pub fn nodes_of_text<X: Subtree>(
     reader: Reader,
     text: &str,
 ) -> Result<Items<NodeAt>, Error>
-    ensures { spec.Replies (visits.category X.Subtree reader) (λ a. places.found X.prints (visits.visits reader a))
+    ensures { spec.Replies documented (visits.category X.Subtree reader) (λ a. places.found X.prints (visits.visits reader a))
         (text_end text.now) text.now result }
 {
     nodes_in::<X>(alloc, reader, Span::new(text.len(), text.len()), text)
+}
+
+/// `nodes_of_text` of a text that nests no deeper than a limit. Another one is refused as `read_text_within` of `syn_run` refuses it.
+pub fn nodes_of_text_within<X: Subtree>(
+    alloc: Global,
+    reader: Reader,
+    text: &str,
+    limit: usize,
+) -> Result<Items<NodeAt>, Error>
+    ensures { spec.RepliesWithin documented limit (visits.category X.Subtree reader)
+        (λ a. places.found X.prints (visits.visits reader a)) (text_end text.now) text.now result }
+{
+    check_text(alloc, text, Docs::Read, limit)?;
+    nodes_of_text::<X>(alloc, reader, text)
 }
 
 /// The nodes of what a reader reads of a text in a scope.
@@ -84,10 +161,10 @@ fn nodes_in<X: Subtree>(
     scope: Span,
     text: &str,
 ) -> Result<Items<NodeAt>, Error>
-    ensures { spec.Replies (visits.category X.Subtree reader) (λ a. places.found X.prints (visits.visits reader a)) scope text.now
-        result }
+    ensures { spec.Replies documented (visits.category X.Subtree reader) (λ a. places.found X.prints (visits.visits reader a)) scope
+        text.now result }
 {
-    let tokens = lex(alloc, text)?;
+    let tokens = lex_with(alloc, text, Docs::Read)?;
     nodes_by::<X>(alloc, reader, scope, tokens)
 }
 
@@ -111,13 +188,33 @@ fn nodes_by<X: Subtree>(
         ),
         Reader::Meta => found::<Attribute<X>, Expr<X>, Meta<X>>(alloc, scope, tokens),
         Reader::MetaList => found::<Attribute<X>, Expr<X>, MetaList>(alloc, scope, tokens),
-        Reader::MetaNameValue => found::<Attribute<X>, Expr<X>, MetaNameValue<X>>(alloc, scope, tokens),
-        Reader::Outer => found_with::<Attribute<X>, Expr<X>, _>(alloc, ParseOuter::<X>::new(), scope, tokens),
-        Reader::Inner => found_with::<Attribute<X>, Expr<X>, _>(alloc, ParseInner::<X>::new(), scope, tokens),
-        Reader::PointerMutability => found::<Attribute<X>, Expr<X>, PointerMutability>(alloc, scope, tokens),
-        Reader::Types(reader) => nodes_of_types::<Attribute<X>, Expr<X>>(alloc, reader, scope, tokens),
-        Reader::Paths(reader) => nodes_of_paths::<Attribute<X>, Expr<X>>(alloc, reader, scope, tokens),
-        Reader::Generics(reader) => nodes_of_generics::<Attribute<X>, Expr<X>>(alloc, reader, scope, tokens),
+        Reader::MetaNameValue => found::<Attribute<X>, Expr<X>, MetaNameValue<X>>(
+            alloc, scope, tokens,
+        ),
+        Reader::Outer => found_with::<Attribute<X>, Expr<X>, _>(
+            alloc,
+            ParseOuter::<X>::new(),
+            scope,
+            tokens,
+        ),
+        Reader::Inner => found_with::<Attribute<X>, Expr<X>, _>(
+            alloc,
+            ParseInner::<X>::new(),
+            scope,
+            tokens,
+        ),
+        Reader::PointerMutability => found::<Attribute<X>, Expr<X>, PointerMutability>(
+            alloc, scope, tokens,
+        ),
+        Reader::Types(reader) => nodes_of_types::<Attribute<X>, Expr<X>>(
+            alloc, reader, scope, tokens,
+        ),
+        Reader::Paths(reader) => nodes_of_paths::<Attribute<X>, Expr<X>>(
+            alloc, reader, scope, tokens,
+        ),
+        Reader::Generics(reader) => nodes_of_generics::<Attribute<X>, Expr<X>>(
+            alloc, reader, scope, tokens,
+        ),
         Reader::Items(_) => nodes_of_struct::<Attribute<X>, Expr<X>>(alloc, scope, tokens),
         Reader::Patterns(reader) => nodes_of_patterns::<X>(alloc, reader, scope, tokens),
     }
@@ -211,7 +308,12 @@ fn nodes_of_types<A: Attributes + ToTokens + Parts, E: Value + ToTokens>(
         ),
         TypeReader::NamedArg => found::<A, E, NamedArgOf<TypeOf<A, E>, A>>(alloc, scope, tokens),
         TypeReader::Abi => found::<A, E, Abi>(alloc, scope, tokens),
-        TypeReader::OptionalAbi => found_with::<A, E, _>(alloc, ParseOptionalAbi::new(), scope, tokens),
+        TypeReader::OptionalAbi => found_with::<A, E, _>(
+            alloc,
+            ParseOptionalAbi::new(),
+            scope,
+            tokens,
+        ),
     }
 }
 
@@ -309,12 +411,7 @@ fn nodes_of_struct<A: Attributes + ToTokens + Parts, E: Value + ToTokens>(
         (Headline (parts.item A.Attributes E.Value).grammar)
         (λ a. places.all (places.shown A.print E.print A.shown E.values) A.parts (visits.item a)) scope (toks tokens) result }
 {
-    let item = taken(
-        alloc,
-        ByParse::<StructItemOf<A, E>>::new(),
-        scope,
-        tokens,
-    )?;
+    let item = taken(alloc, ByParse::<StructItemOf<A, E>>::new(), scope, tokens)?;
     Ok(places_of_struct(alloc, &item)?)
 }
 

@@ -1,6 +1,6 @@
 -- What a read of a text within a limit answers.
 use Rattle.std.proofs.Common.{◌≡◌, ◌⊎◌, inl, inr, ℕ, List, Option, Some, None, Result, Ok, Err, ap}
-use Rattle.token_core.specs.declared.error.ErrorKind.TheVariants.{NestedTooDeep}
+use Rattle.token_core.specs.declared.error.ErrorKind.TheVariants.{NestedTooDeep, OutOfMemory}
 use Rattle.token_core.specs.declared.span.Span.{Span}
 use Rattle.token_core.specs.declared.tree.TokenTree.{TokenTree}
 use Rattle.token_core.specs.Levels.{too_deep, Checked}
@@ -10,8 +10,8 @@ use Rattle.token_text.specs.declared.piece.Docs.{Docs}
 use Rattle.token_text.specs.Depth.{deep_at}
 use Rattle.token_text.specs.Spelling.{SpellsWith}
 use Rattle.syn_readers.specs.Readers.{Category}
-use Rattle.syn_run.specs.Run.{Replies, RepliesWithin}
-use Rattle.syn_run.proofs.Said.{by_no_memory, reply-text, reply-refusal}
+use Rattle.syn_run.specs.Run.{Within, RepliesWithin}
+use Rattle.syn_run.proofs.Said.{reply-text, reply-refusal}
 
 -- by what is said of a text that is checked
 at_place : (o : Option Span) (s : Span) (e : Refusal) → o ≡ Some s → Checked o (Err e) → (e ≡ out_of_memory) ⊎ (e ≡ named NestedTooDeep s)
@@ -27,24 +27,25 @@ for_memory (Some s) e h c = cc
 no_place : (o : Option Span) (s : Span) → o ≡ None → o ≡ Some s → ⊥
 no_place o s e f = cc
 
-module _ {A S : Type 0} (docs : Docs) (limit : ℕ) (C : Category A) (scope : Span) (text : Bytes) (bytes : S → Bytes) where
+module _ {S : Type 0} (docs : Docs) (limit : ℕ) (text : Bytes) (Is : Result S Refusal → Type 0) where
   module _ (is : (l : List TokenTree) → SpellsWith docs text l → deep_at docs limit text ≡ too_deep limit l) where
     -- a text that the check refuses
-    pub of_unchecked : (e : Refusal) → Checked (deep_at docs limit text) (Err e) → RepliesWithin docs limit C scope text bytes (Err e)
-    of_unchecked e h = record {
+    pub of_unchecked : ((e : Refusal) → e.kind ≡ OutOfMemory → Is (Err e)) → (e : Refusal) → Checked (deep_at docs limit text) (Err e) → Within docs limit text Is (Err e)
+    of_unchecked by_memory e h = record {
       deep = λ s k. at_place (deep_at docs limit text) s e k h;
-      within = λ k. by_no_memory docs C scope text bytes e (ap (λ (r : Refusal). r.kind) (for_memory (deep_at docs limit text) e k h));
+      within = λ k. by_memory e (ap (λ (r : Refusal). r.kind) (for_memory (deep_at docs limit text) e k h));
       listed = is;
     }
 
     -- a text that it lets pass
-    pub of_checked : (r : Result S Refusal) → deep_at docs limit text ≡ None → Replies docs C scope text bytes r → RepliesWithin docs limit C scope text bytes r
+    pub of_checked : (r : Result S Refusal) → deep_at docs limit text ≡ None → Is r → Within docs limit text Is r
     of_checked r none h = record {
       deep = λ s k. absurd (no_place (deep_at docs limit text) s none k);
       within = λ k. h;
       listed = is;
     }
 
+module _ {A S : Type 0} (docs : Docs) (limit : ℕ) (C : Category A) (scope : Span) (text : Bytes) (bytes : S → Bytes) where
   pub bounded-text : (s : S) (t : Bytes) → t ≡ bytes s → RepliesWithin docs limit C scope text bytes (Ok s) → RepliesWithin docs limit C scope text (λ (x : Bytes). x) (Ok t)
   bounded-text s t e h = record { deep = λ p k. h.deep p k; within = λ k. reply-text docs C scope text bytes s t e (h.within k); listed = λ l i. h.listed l i }
 

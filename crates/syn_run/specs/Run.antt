@@ -121,12 +121,15 @@ pub record Replies {A S : Type 0} (docs : Docs) (C : Category A) (scope : Span) 
   pub justified : JustifiedBy docs C scope text bytes answer
   pub accepts : (l : List TokenTree) (a : A) → IsTextOf docs text l → Visible (row l done) → C.clear a (row l done) → AnswersBy C bytes answer a
 
--- The same within a limit: a text of which a token passes the limit is refused at the first such token, and any other one is answered as without a limit. Where the
+-- What answers a text within a limit: a text of which a token passes the limit is refused at the first such token, and of any other one this holds. Where the
 -- text spells a list, its tokens are those of the list (`token_core/specs/Levels.antt`).
-pub record RepliesWithin {A S : Type 0} (docs : Docs) (limit : ℕ) (C : Category A) (scope : Span) (text : Bytes) (bytes : S → Bytes) (answer : Result S Refusal) : Type 0 where
+pub record Within {S : Type 0} (docs : Docs) (limit : ℕ) (text : Bytes) (Is : Result S Refusal → Type 0) (answer : Result S Refusal) : Type 0 where
   pub deep : (s : Span) → deep_at docs limit text ≡ Some s → MatchResult answer (λ _. ⊥) (λ e. (e ≡ out_of_memory) ⊎ (e ≡ named NestedTooDeep s))
-  pub within : deep_at docs limit text ≡ None → Replies docs C scope text bytes answer
+  pub within : deep_at docs limit text ≡ None → Is answer
   pub listed : (l : List TokenTree) → SpellsWith docs text l → deep_at docs limit text ≡ too_deep limit (stream_of_trees l)
+
+abbrev pub RepliesWithin : {A S : Type 0} → Docs → ℕ → Category A → Span → Bytes → (S → Bytes) → Result S Refusal → Type 0
+RepliesWithin docs limit C scope text bytes = Within docs limit text (Replies docs C scope text bytes)
 
 -- ---- a run
 
