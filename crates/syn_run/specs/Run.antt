@@ -4,7 +4,7 @@ use Rattle.token_core.specs.declared.tree.TokenTree.{TokenTree}
 use Rattle.token_core.specs.Toks.{Bytes, done}
 use Rattle.token_core.specs.Trees.{row, stream_of_trees}
 use Rattle.token_core.specs.Levels.{too_deep}
-use Rattle.token_core.specs.Refusal.{Refusal, named, out_of_memory}
+use Rattle.token_core.specs.Refusal.{Refusal, named as refusal, out_of_memory}
 use Rattle.token_core.specs.Rebuilt.{Visible}
 use Rattle.token_core.specs.Spans.{none}
 use Rattle.token_core.specs.declared.span.Span.{Span}
@@ -124,7 +124,7 @@ pub record Replies {A S : Type 0} (docs : Docs) (C : Category A) (scope : Span) 
 -- What answers a text within a limit: a text of which a token passes the limit is refused at the first such token, and of any other one this holds. Where the
 -- text spells a list, its tokens are those of the list (`token_core/specs/Levels.antt`).
 pub record Within {S : Type 0} (docs : Docs) (limit : ℕ) (text : Bytes) (Is : Result S Refusal → Type 0) (answer : Result S Refusal) : Type 0 where
-  pub deep : (s : Span) → deep_at docs limit text ≡ Some s → MatchResult answer (λ _. ⊥) (λ e. (e ≡ out_of_memory) ⊎ (e ≡ named NestedTooDeep s))
+  pub deep : (s : Span) → deep_at docs limit text ≡ Some s → MatchResult answer (λ _. ⊥) (λ e. (e ≡ out_of_memory) ⊎ (e ≡ refusal NestedTooDeep s))
   pub within : deep_at docs limit text ≡ None → Is answer
   pub listed : (l : List TokenTree) → SpellsWith docs text l → deep_at docs limit text ≡ too_deep limit (stream_of_trees l)
 

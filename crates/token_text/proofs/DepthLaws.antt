@@ -325,8 +325,11 @@ one_past limit t l x h = else_is (nat_lt limit (step t.0 x).here) _ _ h
 ident_here : (limit : ℕ) (b : Bytes) (x : levels.State) (r : Bool) → nat_lt limit (ident (text_class b) x).here ≡ r → nat_lt limit (step (text_class b) x).here ≡ r
 ident_here limit b x r h = ap (λ (y : levels.State). nat_lt limit y.here) (ident_step b x) ∙ h
 
-at_most : (n limit : ℕ) → n ≤ limit → nat_lt limit n ≡ false
+pub at_most : (n limit : ℕ) → n ≤ limit → nat_lt limit n ≡ false
 at_most n limit h = grind (arith, h)
+
+pub beyond : (n limit : ℕ) → limit < n → nat_lt limit n ≡ true
+beyond n limit h = grind (arith, h)
 
 under : (n limit : ℕ) → nat_lt limit n ≡ false → n ≤ limit
 under n limit h = grind (arith, h)
