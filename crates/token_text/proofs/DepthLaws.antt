@@ -449,7 +449,7 @@ module _ (docs : Docs) (limit : ℕ) (text : Bytes) where
           let more = tokens_from docs 0 Then (chars after) in (
             piece_stays limit p b y r.0 n,
             r.1 ∙ ap (λ k. passes limit k y) goes ∙ passes_append limit (piece_tokens p s b) more y (piece_within limit p s b y r.0 n)
-            ∙ ap (passes limit more) (piece_passed p s b y),
+                ∙ ap (passes limit more) (piece_passed p s b y),
           )
 
       refused_there : (o : Option Span) (t : Span) (f : Refusal) → o ≡ Some t → Stored f (named NestedTooDeep t) → Checked o (Err f)

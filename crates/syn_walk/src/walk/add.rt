@@ -9,8 +9,8 @@ use crate::walk::NodeOf;
 use std::alloc::AllocError;
 use syn_path::path::{PathOf, PathSegmentOf, QSelfOf};
 use syn_ty::generics::{
-    BoundLifetimesOf, CapturedParam, GenericParamOf, LifetimeParamOf, PreciseCapture,
-    TraitBoundOf, TypeParamBoundOf, TypeParamOf,
+    BoundLifetimesOf, CapturedParam, GenericParamOf, LifetimeParamOf, PreciseCapture, TraitBoundOf,
+    TypeParamBoundOf, TypeParamOf,
 };
 use syn_ty::path::{
     AngleBracketedGenericArgumentsOf, AssocTypeOf, ConstraintOf, GenericArgumentOf,

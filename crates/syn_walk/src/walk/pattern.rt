@@ -47,8 +47,8 @@ impl<A, E> WalkQualifier<A, E, PathOf<PathArgumentsOf<A, E>>> for QSelfOf<TypeOf
     }
 }
 
-impl<X, E, R, Q: WalkQualifier<Attribute<X>, E, R>, T: Walk<Attribute<X>, E>>
-    Walk<Attribute<X>, E> for PatOf<Attribute<X>, R, Q, T, X> {
+impl<X, E, R, Q: WalkQualifier<Attribute<X>, E, R>, T: Walk<Attribute<X>, E>> Walk<Attribute<X>, E>
+    for PatOf<Attribute<X>, R, Q, T, X> {
     ghost visits = { spec.pat Q.names T.visits };
 
     fn add_nodes<'a>(
@@ -59,8 +59,7 @@ impl<X, E, R, Q: WalkQualifier<Attribute<X>, E, R>, T: Walk<Attribute<X>, E>>
     }
 }
 
-impl<X, E, R, Q: WalkQualifier<Attribute<X>, E, R>, T: Walk<Attribute<X>, E>>
-    Walk<Attribute<X>, E>
+impl<X, E, R, Q: WalkQualifier<Attribute<X>, E, R>, T: Walk<Attribute<X>, E>> Walk<Attribute<X>, E>
     for PatTypeOf<PatOf<Attribute<X>, R, Q, T, X>, Attribute<X>, T> {
     ghost visits = { spec.typed Q.names T.visits };
 
@@ -75,14 +74,7 @@ impl<X, E, R, Q: WalkQualifier<Attribute<X>, E, R>, T: Walk<Attribute<X>, E>>
 /// A pattern: what it holds.
 #[cycle(add)]
 #[tactic(auto, using(crate::proofs::PatternWalks::patterns))]
-pub(crate) fn add_pat<
-    'a,
-    X,
-    E,
-    R,
-    Q: WalkQualifier<Attribute<X>, E, R>,
-    T: Walk<Attribute<X>, E>,
->(
+pub(crate) fn add_pat<'a, X, E, R, Q: WalkQualifier<Attribute<X>, E, R>, T: Walk<Attribute<X>, E>>(
     pat: &'a PatOf<Attribute<X>, R, Q, T, X>,
     out: &mut Items<NodeOf<'a, Attribute<X>, E>>,
 ) -> Result<(), AllocError>
@@ -112,14 +104,7 @@ pub(crate) fn add_pat<
 
 #[cycle(add)]
 #[tactic(auto, using(crate::proofs::PatternWalks::patterns))]
-fn add_held<
-    'a,
-    X,
-    E,
-    R,
-    Q: WalkQualifier<Attribute<X>, E, R>,
-    T: Walk<Attribute<X>, E>,
->(
+fn add_held<'a, X, E, R, Q: WalkQualifier<Attribute<X>, E, R>, T: Walk<Attribute<X>, E>>(
     attrs: &'a Items<Attribute<X>>,
     pat: &'a Boxed<PatOf<Attribute<X>, R, Q, T, X>>,
     out: &mut Items<NodeOf<'a, Attribute<X>, E>>,
@@ -132,25 +117,14 @@ fn add_held<
 
 #[cycle(add)]
 #[tactic(auto, using(crate::proofs::PatternWalks::patterns))]
-fn add_binding<
-    'a,
-    X,
-    E,
-    R,
-    Q: WalkQualifier<Attribute<X>, E, R>,
-    T: Walk<Attribute<X>, E>,
->(
+fn add_binding<'a, X, E, R, Q: WalkQualifier<Attribute<X>, E, R>, T: Walk<Attribute<X>, E>>(
     pat: &'a PatIdentOf<PatOf<Attribute<X>, R, Q, T, X>, Attribute<X>>,
     out: &mut Items<NodeOf<'a, Attribute<X>, E>>,
 ) -> Result<(), AllocError>
     ensures { OnOk result (seen out.new ≡ seen out.old ++ spec.binding_by (spec.pat Q.names T.visits) pat.now) }
 {
     add_attributes(&pat.attrs, out)?;
-    out.push(NodeOf::Binding(
-        &pat.ident,
-        pat.by_ref.is_some(),
-        pat.mutability.is_some(),
-    ))?;
+    out.push(NodeOf::Binding(&pat.ident, pat.by_ref.is_some(), pat.mutability.is_some()))?;
     match &pat.subpat {
         None => Ok(()),
         Some((_, pat)) => add_pat(pat.get(), out),
@@ -159,14 +133,7 @@ fn add_binding<
 
 #[cycle(add)]
 #[tactic(auto, using(crate::proofs::PatternWalks::patterns))]
-fn add_cases<
-    'a,
-    X,
-    E,
-    R,
-    Q: WalkQualifier<Attribute<X>, E, R>,
-    T: Walk<Attribute<X>, E>,
->(
+fn add_cases<'a, X, E, R, Q: WalkQualifier<Attribute<X>, E, R>, T: Walk<Attribute<X>, E>>(
     attrs: &'a Items<Attribute<X>>,
     cases: &'a Punctuated<PatOf<Attribute<X>, R, Q, T, X>, Or>,
     out: &mut Items<NodeOf<'a, Attribute<X>, E>>,
@@ -182,14 +149,7 @@ fn add_cases<
 
 #[cycle(add)]
 #[tactic(auto, using(crate::proofs::PatternWalks::patterns))]
-fn add_elems<
-    'a,
-    X,
-    E,
-    R,
-    Q: WalkQualifier<Attribute<X>, E, R>,
-    T: Walk<Attribute<X>, E>,
->(
+fn add_elems<'a, X, E, R, Q: WalkQualifier<Attribute<X>, E, R>, T: Walk<Attribute<X>, E>>(
     attrs: &'a Items<Attribute<X>>,
     elems: &'a Punctuated<PatOf<Attribute<X>, R, Q, T, X>, Comma>,
     out: &mut Items<NodeOf<'a, Attribute<X>, E>>,
@@ -202,14 +162,7 @@ fn add_elems<
 
 #[cycle(add)]
 #[tactic(auto, using(crate::proofs::PatternWalks::patterns))]
-fn add_list<
-    'a,
-    X,
-    E,
-    R,
-    Q: WalkQualifier<Attribute<X>, E, R>,
-    T: Walk<Attribute<X>, E>,
->(
+fn add_list<'a, X, E, R, Q: WalkQualifier<Attribute<X>, E, R>, T: Walk<Attribute<X>, E>>(
     pats: &'a Punctuated<PatOf<Attribute<X>, R, Q, T, X>, Comma>,
     out: &mut Items<NodeOf<'a, Attribute<X>, E>>,
 ) -> Result<(), AllocError>
@@ -223,14 +176,7 @@ fn add_list<
 
 #[cycle(add)]
 #[tactic(auto, using(crate::proofs::PatternWalks::patterns))]
-fn add_struct<
-    'a,
-    X,
-    E,
-    R,
-    Q: WalkQualifier<Attribute<X>, E, R>,
-    T: Walk<Attribute<X>, E>,
->(
+fn add_struct<'a, X, E, R, Q: WalkQualifier<Attribute<X>, E, R>, T: Walk<Attribute<X>, E>>(
     pat: &'a PatStructOf<PatOf<Attribute<X>, R, Q, T, X>, Attribute<X>, R, Q>,
     out: &mut Items<NodeOf<'a, Attribute<X>, E>>,
 ) -> Result<(), AllocError>
@@ -244,14 +190,7 @@ fn add_struct<
 
 #[cycle(add)]
 #[tactic(auto, using(crate::proofs::PatternWalks::patterns))]
-fn add_fields<
-    'a,
-    X,
-    E,
-    R,
-    Q: WalkQualifier<Attribute<X>, E, R>,
-    T: Walk<Attribute<X>, E>,
->(
+fn add_fields<'a, X, E, R, Q: WalkQualifier<Attribute<X>, E, R>, T: Walk<Attribute<X>, E>>(
     fields: &'a Punctuated<FieldPatOf<PatOf<Attribute<X>, R, Q, T, X>, Attribute<X>>, Comma>,
     out: &mut Items<NodeOf<'a, Attribute<X>, E>>,
 ) -> Result<(), AllocError>
@@ -265,14 +204,7 @@ fn add_fields<
 
 #[cycle(add)]
 #[tactic(auto, using(crate::proofs::PatternWalks::patterns))]
-fn add_tuple_struct<
-    'a,
-    X,
-    E,
-    R,
-    Q: WalkQualifier<Attribute<X>, E, R>,
-    T: Walk<Attribute<X>, E>,
->(
+fn add_tuple_struct<'a, X, E, R, Q: WalkQualifier<Attribute<X>, E, R>, T: Walk<Attribute<X>, E>>(
     pat: &'a PatTupleStructOf<PatOf<Attribute<X>, R, Q, T, X>, Attribute<X>, R, Q>,
     out: &mut Items<NodeOf<'a, Attribute<X>, E>>,
 ) -> Result<(), AllocError>

@@ -69,7 +69,7 @@ loop-rest-preserved c =
       search rules,
       omega (arith, le, past_le b.past),
       reached_blanks docs limit text after c.after_blanks-rest-in-Ok.result.now y le b.past b.rest
-      (subst (λ y. Reached docs limit text (length text - length after) (chars after) y) (sym c.in_ok-take-in-Ok.ensures) goes),
+          (subst (λ y. Reached docs limit text (length text - length after) (chars after) y) (sym c.in_ok-take-in-Ok.ensures) goes),
     )
 
 pub returns-in-Err : goal.returns-in-Err
