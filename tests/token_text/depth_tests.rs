@@ -15,8 +15,10 @@ fn told(outcome: Result<(), Error>) -> Option<(ErrorKind, usize, usize)> {
 }
 
 /// A text and its list are refused alike, within each limit.
-fn agree(rt: &impl Abort, alloc: Global, text: &str, docs: Docs) -> Result<(), Error> {
-    let tokens = lex_with(alloc, text, docs)?;
+fn agree(rt: &impl Abort, alloc: Global, text: &str, docs: Docs) {
+    let Ok(tokens) = lex_with(alloc, text, docs) else {
+        panic!(rt; "no list: {text}");
+    };
     for limit in 0..12 {
         let found = told(check_text(alloc, text, docs, limit));
         let wanted = told(check_nesting(alloc, &tokens, limit));
@@ -24,11 +26,10 @@ fn agree(rt: &impl Abort, alloc: Global, text: &str, docs: Docs) -> Result<(), E
             panic!(rt; "within {limit}: {text}");
         }
     }
-    Ok(())
 }
 
 #[test]
-fn texts_are_refused_as_their_lists(rt: HostRuntime) -> Result<(), Fail> {
+fn texts_are_refused_as_their_lists(rt: HostRuntime) {
     for text in [
         "",
         " // a\n",
@@ -42,14 +43,13 @@ fn texts_are_refused_as_their_lists(rt: HostRuntime) -> Result<(), Fail> {
         "a @ b @ (c @ d) { e } @ f",
         "/* & */ & // &\n & [& /* /* & */ */]",
     ] {
-        agree(&rt, rt.alloc(), text, Docs::Refuse)?;
-        agree(&rt, rt.alloc(), text, Docs::Read)?;
+        agree(&rt, rt.alloc(), text, Docs::Refuse);
+        agree(&rt, rt.alloc(), text, Docs::Read);
     }
-    Ok(())
 }
 
 #[test]
-fn documentation_has_the_levels_of_its_attribute(rt: HostRuntime) -> Result<(), Fail> {
+fn documentation_has_the_levels_of_its_attribute(rt: HostRuntime) {
     for text in [
         "/// A.",
         "(//! A.\n& b)",
@@ -57,14 +57,13 @@ fn documentation_has_the_levels_of_its_attribute(rt: HostRuntime) -> Result<(), 
         "a /// A.\n & /*! B */ & c /// D",
         "[/// A<B<C<D\n &E]",
     ] {
-        agree(&rt, rt.alloc(), text, Docs::Read)?;
+        agree(&rt, rt.alloc(), text, Docs::Read);
     }
     let alloc = rt.alloc();
     let deep = Some((ErrorKind::NestedTooDeep, 2, 8));
     assert!(rt; told(check_text(alloc, "a /// A.\n", Docs::Read, 0)) == deep);
     assert!(rt; told(check_text(alloc, "a /// A.\n", Docs::Read, 1)).is_none());
     assert!(rt; told(check_text(alloc, "a /// A.\n", Docs::Refuse, 0)).is_none());
-    Ok(())
 }
 
 /// So many times a text.
