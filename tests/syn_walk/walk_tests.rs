@@ -6,12 +6,12 @@ use std::fmt::Write;
 use std::process::Abort;
 use std::test::Fail;
 use syn_mid::verbatim::{
-    Abi, Attribute, ConstParam, Expr, GenericArgument, Generics, Meta, MetaNameValue, NamedArg, Node, Pat, PatType,
-    PathSegment, ReturnType, Type, TypeArray, TypeMacro, TypeNever, TypeParamBound, TypeReference,
-    TypeTraitObject, TypeTuple, WhereClause,
+    Attribute, ConstParam, Expr, GenericArgument, Generics, Meta, MetaNameValue, NamedArg, Node,
+    Pat, PatType, PathSegment, ReturnType, Type, TypeArray, TypeMacro, TypeNever, TypeParamBound,
+    TypeReference, TypeTraitObject, TypeTuple, WhereClause,
 };
-use syn_mid::{CapturedParam, Macro, MetaList};
 use syn_mid::walk::{NodeOf, Walk, nodes, span_of, span_of_tokens};
+use syn_mid::{Abi, CapturedParam, Macro, MetaList};
 use token_core::token::{Comma, Plus};
 use token_core::{ByFn, Error, Ident, Items, Parse, Punctuated, Span, TokenStream};
 use token_text::{lex, read_str, read_str_with};
@@ -107,7 +107,7 @@ fn types(rt: HostRuntime) {
             "A<{ n }, N<'a> = 1, I<T> = U, J<'b>: B + ?C>",
             "T A<{ n }, N<'a> = 1, I<T> = U, J<'b>: B + ?C>; P A<{ n }, N<'a> = 1, I<T> = U, J<'b>: B + ?C>; G { n }; G N<'a> = 1; G 'a; L 'a; G I<T> = U; G T; T T; P T; T U; P U; G J<'b>: B + ?C; G 'b; L 'b; B B; P B; B ?C; P C; ",
         ),
-        ("<T>::C", "T <T>::C; T T; P T; PI C; "),
+        ("<T>::C", "T <T>::C; T T; P T; PI ::C; "),
         (
             "fn(#[a] x: A, #[b] ...)",
             "T fn(#[a] x: A, #[b] ...); A #[a]; T A; P A; A #[b]; ",

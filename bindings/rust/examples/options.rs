@@ -6,18 +6,18 @@ use std::process::ExitCode;
 
 /// What `#[cli(..)]` says of a field.
 #[derive(Debug, Default, PartialEq, Eq)]
-pub struct Options {
-    pub name: Option<String>,
-    pub short: Option<String>,
-    pub flag: bool,
+pub(crate) struct Options {
+    pub(crate) name: Option<String>,
+    pub(crate) short: Option<String>,
+    pub(crate) flag: bool,
 }
 
 /// What is wrong, and where in the text.
 #[derive(Debug, PartialEq, Eq)]
-pub struct Wrong {
-    pub message: String,
-    pub start: usize,
-    pub end: usize,
+pub(crate) struct Wrong {
+    pub(crate) message: String,
+    pub(crate) start: usize,
+    pub(crate) end: usize,
 }
 
 fn wrong<T>(message: &str, start: usize, end: usize) -> Result<T, Wrong> {
@@ -30,7 +30,7 @@ fn wrong<T>(message: &str, start: usize, end: usize) -> Result<T, Wrong> {
 }
 
 /// Reads the attributes of a field: those of `cli`, and of others nothing.
-pub fn options(text: &str) -> Result<Options, Wrong> {
+pub(crate) fn options(text: &str) -> Result<Options, Wrong> {
     let mut found = Options::default();
     let mut of_cli = false;
     for node in nodes("Attribute::parse_outer", text).map_err(|it| moved(&it, 0))? {

@@ -6,13 +6,13 @@ use std::process::ExitCode;
 
 /// A path that a signature names, without its arguments, and where it begins in the text.
 #[derive(Debug, PartialEq, Eq)]
-pub struct Named {
-    pub path: String,
-    pub start: usize,
+pub(crate) struct Named {
+    pub(crate) path: String,
+    pub(crate) start: usize,
 }
 
 /// The paths of a pointer to a function, each before those of its arguments; and its lifetimes, each once.
-pub fn index(signature: &str) -> Result<(Vec<Named>, Vec<String>), Refusal> {
+pub(crate) fn index(signature: &str) -> Result<(Vec<Named>, Vec<String>), Refusal> {
     let (mut paths, mut lifetimes) = (Vec::new(), Vec::new());
     for node in nodes("TypeFnPtr", signature)? {
         let text = node.text(signature);

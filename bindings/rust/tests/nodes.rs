@@ -159,7 +159,7 @@ fn options_are_read() {
 #[test]
 fn signatures_are_indexed() {
     let (paths, lifetimes) =
-        index("for<'a> fn(&'a str, std::vec::Vec<<T as Iterator>::Item>) -> impl Fn(u8) + 'a")
+        index("for<'a> fn(&'a str, std::vec::Vec<<T as Iterator>::Item>) -> Box<dyn Fn(u8) + 'a>")
             .unwrap();
     let named: Vec<_> = paths
         .iter()
@@ -171,8 +171,9 @@ fn signatures_are_indexed() {
         ("T", 35),
         ("Iterator", 40),
         ("Item", 51),
-        ("Fn", 66),
-        ("u8", 69),
+        ("Box", 61),
+        ("Fn", 69),
+        ("u8", 72),
     ];
     assert_eq!(named, wanted);
     assert_eq!(lifetimes, ["'a"]);

@@ -103,10 +103,10 @@ module _ {A E : Type 0} where
   items i.Head x = item x
 
 -- what a reader reads and promises: as a run says it, but of the view of generics for an implementation as of the generics, since no view is printed
-module _ {A E : Type 0} (attrs : Attributes A) (exprs : Expressions E) where
+module _ {A E : Type 0} (given : Attributes A) (exprs : Expressions E) where
   abbrev pub generics_category : (r : GenericsReader) → Category (GenericsTree A E r)
-  generics_category g.ImplGenerics = of_grammar (generics_promises.generics attrs exprs)
-  generics_category r = readers.generics_category attrs exprs r
+  generics_category g.ImplGenerics = of_grammar (generics_promises.generics given exprs)
+  generics_category r = readers.generics_category given exprs r
 
 abbrev pub category : {X : Type 0} → Subtree X → (r : Reader) → Category (Tree X r)
 category sub (Generics r) = generics_category (attributes_in sub) (expressions_in sub) r
