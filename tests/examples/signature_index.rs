@@ -37,7 +37,8 @@ fn index<T: Walk<Attribute, Expr>>(alloc: Global, tree: &T) -> Result<Vec<Named>
     for node in nodes(alloc, tree)?.iter() {
         match node {
             NodeOf::Path(path) => add_name(alloc, path, &mut index)?,
-            NodeOf::ItemPath(path, _) => add_name(alloc, path, &mut index)?,
+            NodeOf::TraitPath(path, _) => add_name(alloc, path, &mut index)?,
+            NodeOf::ItemPath(path, 0) => add_name(alloc, path, &mut index)?,
             NodeOf::MacroPath(path) => add_name(alloc, path, &mut index)?,
             _ => {}
         }
