@@ -20,112 +20,50 @@ ghost use Rattle.token_core.specs.Trees.{toks};
 ghost use Rattle.token_text.specs.Wholes.{text_end};
 ghost use Rattle.token_text.specs.declared.piece.Docs.TheVariants.{Read as documented};
 
-use crate::node::NodeAt;
-use crate::node::Parts;
-use crate::node::places;
-use crate::node::places_of;
+use crate::node::{NodeAt, Parts, places, places_of};
 use item_small::item::BodyOf;
-use item_small::structs::ItemBodyOf;
-use item_small::structs::ItemFieldOf;
-use item_small::structs::StructItemOf;
-use std::alloc::AllocError;
-use std::alloc::Global;
+use item_small::structs::{ItemBodyOf, ItemFieldOf, StructItemOf};
+use std::alloc::{AllocError, Global};
 use std::marker::PhantomData;
-use syn_attr::attr::Attribute;
-use syn_attr::attr::Meta;
-use syn_attr::attr::MetaList;
-use syn_attr::attr::MetaNameValue;
+use syn_attr::attr::{Attribute, Meta, MetaList, MetaNameValue};
 use syn_attr::expr::Expr;
 use syn_forms::nested::Held;
 use syn_forms::places::TypePlace;
 use syn_forms::tokens::PointerMutability;
-use syn_generics::generics::GenericsOf;
-use syn_generics::generics::WhereClauseOf;
-use syn_generics::generics::WherePredicateOf;
-use syn_parsers::whole::ImplWithoutPlusOf;
-use syn_parsers::whole::ModStyle;
-use syn_parsers::whole::ObjectWithoutPlusOf;
-use syn_parsers::whole::ParseInner;
-use syn_parsers::whole::ParseOptionalAbi;
-use syn_parsers::whole::ParseOptionalLifetimesOf;
-use syn_parsers::whole::ParseOptionalWhereOf;
-use syn_parsers::whole::ParseOuter;
-use syn_parsers::whole::ParseTurbofishOf;
-use syn_parsers::whole::ReturnWithoutPlusOf;
-use syn_parsers::whole::WithoutPlusOf;
+use syn_generics::generics::{GenericsOf, WhereClauseOf, WherePredicateOf};
+use syn_parsers::whole;
 use syn_pat::knot::parse_pat;
 use syn_pat::names::Qualifier;
-use syn_pat::pat::PatOver;
-use syn_pat::pat::TypedOver;
-use syn_pat::pat::read::parse_guarded;
-use syn_pat::pat::read::parse_typed;
+use syn_pat::pat::read::{parse_guarded, parse_typed};
+use syn_pat::pat::{PatOver, TypedOver};
 use syn_pat::place::PatPlace;
-use syn_pat::supplied::PathArguments;
-use syn_pat::supplied::QSelf;
-use syn_pat::supplied::Type;
+use syn_pat::supplied::{PathArguments, QSelf, Type};
 use syn_path::mac::Macro;
-use syn_path::path::Arguments;
-use syn_path::path::NoArguments;
-use syn_path::path::PathOf;
-use syn_path::path::PathSegmentOf;
-use syn_path::supplied::Attributes;
-use syn_path::supplied::Subtree;
-use syn_path::supplied::Value;
-use syn_readers::by_name::GenericsReader;
-use syn_readers::by_name::PathReader;
-use syn_readers::by_name::TypeReader;
-use syn_readers::by_name::taken;
-use syn_run::readers::PatternReader;
-use syn_run::readers::Reader;
-use syn_ty::generics::BoundLifetimesOf;
-use syn_ty::generics::CapturedParam;
-use syn_ty::generics::ConstParamOf;
-use syn_ty::generics::GenericParamOf;
-use syn_ty::generics::LifetimeParamOf;
-use syn_ty::generics::PreciseCapture;
-use syn_ty::generics::TraitBoundOf;
-use syn_ty::generics::TypeParamBoundOf;
-use syn_ty::generics::TypeParamOf;
-use syn_ty::path::AngleBracketedGenericArgumentsOf;
-use syn_ty::path::GenericArgumentOf;
-use syn_ty::path::ParenthesizedGenericArgumentsOf;
-use syn_ty::path::PathArgumentsOf;
-use syn_ty::ty::Abi;
-use syn_ty::ty::NamedArgOf;
-use syn_ty::ty::ReturnTypeOf;
-use syn_ty::ty::TypeArrayOf;
-use syn_ty::ty::TypeFnPtrOf;
-use syn_ty::ty::TypeGroupOf;
-use syn_ty::ty::TypeImplTraitOf;
-use syn_ty::ty::TypeInferOf;
-use syn_ty::ty::TypeMacroOf;
-use syn_ty::ty::TypeNeverOf;
-use syn_ty::ty::TypeOf;
-use syn_ty::ty::TypeParenOf;
-use syn_ty::ty::TypePathOf;
-use syn_ty::ty::TypePtrOf;
-use syn_ty::ty::TypeReferenceOf;
-use syn_ty::ty::TypeSliceOf;
-use syn_ty::ty::TypeTraitObjectOf;
-use syn_ty::ty::TypeTupleOf;
-use syn_walk::walk::NodeOf;
-use syn_walk::walk::Walk;
+use syn_path::path::{Arguments, NoArguments, PathOf, PathSegmentOf};
+use syn_path::supplied::{Attributes, Subtree, Value};
+use syn_readers::by_name::{GenericsReader, PathReader, TypeReader, taken};
+use syn_run::readers::{PatternReader, Reader};
+use syn_ty::generics::{
+    BoundLifetimesOf, CapturedParam, ConstParamOf, GenericParamOf, LifetimeParamOf, PreciseCapture,
+    TraitBoundOf, TypeParamBoundOf, TypeParamOf,
+};
+use syn_ty::path::{
+    AngleBracketedGenericArgumentsOf, GenericArgumentOf, ParenthesizedGenericArgumentsOf,
+    PathArgumentsOf,
+};
+use syn_ty::ty::{
+    Abi, NamedArgOf, ReturnTypeOf, TypeArrayOf, TypeFnPtrOf, TypeGroupOf, TypeImplTraitOf,
+    TypeInferOf, TypeMacroOf, TypeNeverOf, TypeOf, TypeParenOf, TypePathOf, TypePtrOf,
+    TypeReferenceOf, TypeSliceOf, TypeTraitObjectOf, TypeTupleOf,
+};
 use syn_walk::walk::pattern::WalkQualifier;
-use token_core::Boxed;
-use token_core::ByParse;
-use token_core::Error;
-use token_core::Items;
-use token_core::Parse;
-use token_core::ParseStream;
-use token_core::Parser;
-use token_core::Punctuated;
-use token_core::Span;
-use token_core::ToTokens;
-use token_core::TokenStream;
+use syn_walk::walk::{NodeOf, Walk};
 use token_core::token::Comma;
-use token_text::Docs;
-use token_text::check_text;
-use token_text::lex_with;
+use token_core::{
+    Boxed, ByParse, Error, Items, Parse, ParseStream, Parser, Punctuated, Span, ToTokens,
+    TokenStream,
+};
+use token_text::{Docs, check_text, lex_with};
 
 /// Reads all of a text by a reader, and answers the nodes of what was read, in order of writing: over any supplied subtree. It is refused as
 /// `read_text` of `syn_run` is.
@@ -182,7 +120,7 @@ fn nodes_by<X: Subtree>(
         Reader::Macro => found::<Attribute<X>, Expr<X>, Macro>(alloc, scope, tokens),
         Reader::ModStyle => found_with::<Attribute<X>, Expr<X>, _>(
             alloc,
-            ModStyle::<NoArguments>::new(),
+            whole::ModStyle::<NoArguments>::new(),
             scope,
             tokens,
         ),
@@ -193,13 +131,13 @@ fn nodes_by<X: Subtree>(
         ),
         Reader::Outer => found_with::<Attribute<X>, Expr<X>, _>(
             alloc,
-            ParseOuter::<X>::new(),
+            whole::ParseOuter::<X>::new(),
             scope,
             tokens,
         ),
         Reader::Inner => found_with::<Attribute<X>, Expr<X>, _>(
             alloc,
-            ParseInner::<X>::new(),
+            whole::ParseInner::<X>::new(),
             scope,
             tokens,
         ),
@@ -263,7 +201,7 @@ fn nodes_of_types<A: Attributes + ToTokens + Parts, E: Value + ToTokens>(
         TypeReader::Any => found::<A, E, TypeOf<A, E>>(alloc, scope, tokens),
         TypeReader::WithoutPlus => found_with::<A, E, _>(
             alloc,
-            WithoutPlusOf::<A, E>::new(),
+            whole::WithoutPlusOf::<A, E>::new(),
             scope,
             tokens,
         ),
@@ -275,7 +213,7 @@ fn nodes_of_types<A: Attributes + ToTokens + Parts, E: Value + ToTokens>(
         ),
         TypeReader::ImplWithoutPlus => found_with::<A, E, _>(
             alloc,
-            ImplWithoutPlusOf::<A, E>::new(),
+            whole::ImplWithoutPlusOf::<A, E>::new(),
             scope,
             tokens,
         ),
@@ -294,7 +232,7 @@ fn nodes_of_types<A: Attributes + ToTokens + Parts, E: Value + ToTokens>(
         ),
         TypeReader::ObjectWithoutPlus => found_with::<A, E, _>(
             alloc,
-            ObjectWithoutPlusOf::<A, E>::new(),
+            whole::ObjectWithoutPlusOf::<A, E>::new(),
             scope,
             tokens,
         ),
@@ -302,7 +240,7 @@ fn nodes_of_types<A: Attributes + ToTokens + Parts, E: Value + ToTokens>(
         TypeReader::Return => found::<A, E, ReturnTypeOf<TypeOf<A, E>>>(alloc, scope, tokens),
         TypeReader::ReturnWithoutPlus => found_with::<A, E, _>(
             alloc,
-            ReturnWithoutPlusOf::<A, E>::new(),
+            whole::ReturnWithoutPlusOf::<A, E>::new(),
             scope,
             tokens,
         ),
@@ -310,7 +248,7 @@ fn nodes_of_types<A: Attributes + ToTokens + Parts, E: Value + ToTokens>(
         TypeReader::Abi => found::<A, E, Abi>(alloc, scope, tokens),
         TypeReader::OptionalAbi => found_with::<A, E, _>(
             alloc,
-            ParseOptionalAbi::new(),
+            whole::ParseOptionalAbi::new(),
             scope,
             tokens,
         ),
@@ -340,7 +278,7 @@ fn nodes_of_paths<A: Attributes + ToTokens + Parts, E: Value + ToTokens>(
         >(alloc, scope, tokens),
         PathReader::ParseTurbofish => found_with::<A, E, _>(
             alloc,
-            ParseTurbofishOf::<A, E>::new(),
+            whole::ParseTurbofishOf::<A, E>::new(),
             scope,
             tokens,
         ),
@@ -374,7 +312,7 @@ fn nodes_of_generics<A: Attributes + ToTokens + Parts, E: Value + ToTokens>(
         ),
         GenericsReader::OptionalBoundLifetimes => found_with::<A, E, _>(
             alloc,
-            ParseOptionalLifetimesOf::<A, E>::new(),
+            whole::ParseOptionalLifetimesOf::<A, E>::new(),
             scope,
             tokens,
         ),
@@ -389,7 +327,7 @@ fn nodes_of_generics<A: Attributes + ToTokens + Parts, E: Value + ToTokens>(
         GenericsReader::WhereClause => found::<A, E, WhereClauseOf<A, E>>(alloc, scope, tokens),
         GenericsReader::OptionalWhereClause => found_with::<A, E, _>(
             alloc,
-            ParseOptionalWhereOf::<A, E>::new(),
+            whole::ParseOptionalWhereOf::<A, E>::new(),
             scope,
             tokens,
         ),
