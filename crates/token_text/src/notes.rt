@@ -137,7 +137,8 @@ pub fn line_and_column(
     let (head, _) = cut(text, start);
     let before = visible(alloc, last_line(head))?;
     let under = drawn(alloc, before.as_str(), ' ', '\t')?;
-    Ok((line as usize + line_feeds(head), 1 + under.len()))
+    let blanks = under.as_str();
+    Ok((line as usize + line_feeds(head), 1 + blanks.len()))
 }
 
 /// The first line of a note.

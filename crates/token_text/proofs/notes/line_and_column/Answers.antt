@@ -15,5 +15,6 @@ returns c =
     let under = string_bytes c.in_ok-under.under in
     let is_under : under ≡ spec.blanks (chars shown) = c.in_ok-under.ensures ∙ ap (λ t. spec.blanks (chars t)) (c.as_str.ensures.value ∙ is_before) in
     let is_number : c.args.line + c.line_feeds.result ≡ c.args.line + spec.line_feeds head = ap (λ k. c.args.line + k) (c.line_feeds.ensures.count ∙ ap spec.line_feeds is_head) in
-    let is_column : 1 + c.len.result ≡ 1 + spec.columns (chars shown) = ap (λ k. 1 + k) (c.len.ensures ∙ ap length is_under ∙ length-drawn 32 9 (chars shown)) in
+    let is_column : 1 + length c.as_str-blanks.result.now ≡ 1 + spec.columns (chars shown) =
+    ap (λ k. 1 + k) (ap length (c.as_str-blanks.ensures.value ∙ is_under) ∙ length-drawn 32 9 (chars shown)) in
     rw (is_number, is_column) refl
