@@ -22,6 +22,8 @@ const WRONG: u8 = 2;
 const NO_ANSWER: u8 = 3;
 /// The status where an input can't be read, or the output not be written.
 const UNREAD: u8 = 4;
+/// The byte order mark.
+const MARK: char = '\u{feff}';
 
 /// What is asked of each text.
 #[derive(Clone, Copy)]
@@ -252,8 +254,7 @@ fn read_bytes<W: Write>(
 ) -> io::Result<u8> {
     match str::from_utf8(bytes) {
         Ok(text) if origin.line == 1 => {
-            let rest = after_byte_order_mark(text);
-            let passed = text.len() - rest.len();
+            let (passed, rest) = after_byte_order_mark(text);
             answer_text(rt, asked, Origin { passed, ..origin }, rest, output)
         }
         Ok(text) => answer_text(rt, asked, origin, text, output),
@@ -272,11 +273,11 @@ fn read_bytes<W: Write>(
     }
 }
 
-/// A text without the byte order mark that editors may put before it.
-fn after_byte_order_mark(text: &str) -> &str {
-    match text.strip_prefix('\u{feff}') {
-        Some(rest) => rest,
-        None => text,
+/// How many bytes the byte order mark takes that editors may put before a text, and the text without it.
+fn after_byte_order_mark(text: &str) -> (usize, &str) {
+    match text.strip_prefix(MARK) {
+        Some(rest) => (MARK.len_utf8(), rest),
+        None => (0, text),
     }
 }
 
