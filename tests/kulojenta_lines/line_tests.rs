@@ -31,6 +31,7 @@ fn lines(rt: HostRuntime) -> Result<(), Fail> {
 }
 
 /// Gives a byte a read, and fails behind the last.
+#[derive(Drop)]
 struct Failing<'a>(&'a [u8]);
 
 impl Read for Failing<'_> {
@@ -52,7 +53,7 @@ fn a_failing_input(rt: HostRuntime) -> Result<(), Fail> {
     let mut input = BufReader::new(rt.alloc(), Failing(b"ab\nc"))?;
     let mut line = Vec::new(rt.alloc());
     assert!(rt; next_line(&mut input, &mut line)?);
-    assert!(rt; line.as_slice() == b"ab");
+    assert!(rt; line.as_slice() == b"ab".as_slice());
     match next_line(&mut input, &mut line) {
         Ok(_) => assert!(rt; false),
         Err(error) => assert!(rt; error.kind() == ErrorKind::Unsupported),
