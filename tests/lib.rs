@@ -33,6 +33,8 @@ mod expr_tests;
 #[cfg(test)]
 mod fn_ptr_tests;
 #[cfg(test)]
+mod front_tests;
+#[cfg(test)]
 mod generics_tests;
 #[cfg(test)]
 mod group_tests;

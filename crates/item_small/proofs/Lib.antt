@@ -1,3 +1,2 @@
-pub mod front_laws
 pub mod item_laws
 pub mod part_laws

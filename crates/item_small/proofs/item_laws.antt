@@ -1,5 +1,3 @@
-pub mod Bodies
-pub mod Ends
 pub mod Fields
+pub mod Bodies
 pub mod Items
-pub mod Single

@@ -1,15 +1,16 @@
 //! What an item is made of: each part is read on the front of a list, and says what it spells there.
 
-ghost use Rattle.token_core.specs.Fronted.{Fronting, Fronted};
+ghost use Rattle.token_core.specs.Fronted.{Fronting, Fronted, said};
 ghost use Rattle.token_core.specs.Prints.{Appends};
-ghost use Rattle.token_core.specs.Reads.{Follows, Reads};
+ghost use Rattle.token_core.specs.Reads.{Fails, Follows, Gives, Reads};
 ghost use Rattle.item_small.specs.part.Fronts as fronts;
 
 use std::alloc::{AllocError, Global};
+use std::marker::PhantomData;
 use syn_generics::generics::{GenericsOf, WhereClauseOf};
 use syn_path::supplied::{Attributes, Value};
 use syn_ty::ty::TypeOf;
-use token_core::{Error, Items, Parse, ParseStream, ToTokens, TokenStream};
+use token_core::{Error, Items, Parse, ParseStream, Parser, ToTokens, TokenStream};
 
 /// A part of an item.
 pub trait Part: Sized + Drop {
@@ -25,6 +26,37 @@ pub trait Part: Sized + Drop {
     /// Appends its print; refused, what stood before is kept.
     fn append(&self, alloc: Global, out: &mut TokenStream) -> Result<(), AllocError>
         ensures appends { Appends (front.grammar.print self.now) result out.old out.new };
+}
+
+/// A part, as a parser.
+#[derive(Drop)]
+pub struct ByPart<T> {
+    of: PhantomData<T>,
+}
+
+impl<T> ByPart<T> {
+    pub fn new() -> ByPart<T>
+        ensures { result ≡ record { of = record {} } }
+    {
+        ByPart { of: PhantomData }
+    }
+}
+
+impl<T: Part> Parser for ByPart<T> {
+    type Output = T;
+
+    ghost can_parse = { λ _. Unit {0} };
+
+    ghost reads = { λ _. Gives T.front.grammar.reader };
+
+    ghost refuses = { λ _. Fails T.front.grammar.reader };
+
+    ghost fronts = { λ _. said T.front };
+
+    #[tactic(auto, using(token_core::specs::Reads::no_promise))]
+    fn parse(self, alloc: Global, input: &mut ParseStream<'_>) -> Result<T, Error> {
+        T::read(alloc, input)
+    }
 }
 
 // ---- the parts of a struct over attributes and expressions

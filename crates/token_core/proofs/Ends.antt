@@ -14,11 +14,8 @@ use Rattle.token_core.specs.Rebuilt.{Visible}
 use Rattle.token_core.specs.Toks.{Toks, done, word, mark, lit, group, enter, leave}
 use Rattle.token_core.specs.Trees.{grouped, row}
 use Rattle.token_core.specs.Trees as trees
+pub use Rattle.token_core.specs.laws.Seen.{over}
 use Rattle.token_core.proofs.Flats.{tree-roll, group-roll}
-
-pub over : is_done done ≡ true
-unfolding is_done
-over = refl
 
 pub done_of : (l : Toks) → Visible l → is_done l ≡ true → l ≡ done
 unfolding is_done

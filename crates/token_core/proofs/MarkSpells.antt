@@ -21,6 +21,7 @@ use Rattle.token_core.specs.Spellings.{AreChars, no_char, last_char, more_chars,
 use Rattle.token_core.proofs.Took.{at, mapped, went}
 use Rattle.token_core.proofs.Steps.{Reads_to, link}
 use Rattle.token_core.proofs.Rebuilds.{tree-punct}
+pub use Rattle.token_core.specs.laws.Seen.{mark_seen}
 
 -- what a read took: the answer is spelt, and no tree was left over in a group
 pub record Taken {A : Type 0} (S : A → Toks → Toks → Type 0) (s t : Stream) (a : A) : Type 0 where
@@ -197,10 +198,6 @@ module _ (clear : Bool) {n k : ℕ} where
         reads = link _ (read_at (chars_of n) (mark_name n) l r (spans_by ss) f e sc (chars_complete clear (chars_of n) (chars_of n) ss l r i))
             (ap (λ z. Ok (z, at r f (spans_by ss).third sc)) (mark_is fits short ss clear (chars_of n) l r i));
       }
-
-  pub mark_seen : (m : Mark n k) (l r : Toks) → IsMark clear m l r → sees_mark (chars_of n) l ≡ true
-  unfolding sees_mark
-  mark_seen m l r (is_mark {ss = ss} i) = ap is_some (chars_complete clear (chars_of n) (chars_of n) ss l r i)
 
 -- ---- print
 

@@ -11,15 +11,7 @@ use Rattle.token_core.specs.Spans.{none}
 use Rattle.token_core.specs.Front.{front, past_ends, settled}
 use Rattle.token_core.specs.Stream.{Stream}
 use Rattle.token_core.specs.Reads.{IsSuffix, all_of, past_word, past_punct, past_lit, past_group, past_enter, past_leave, Follows, IsFork, forked, first_of, as_word, as_punct, as_group, past_next, past_mark, after_mark, after_quote, after_front, after_one, is_last, is_joint, put_first, three, word_past, next_word, past}
-
-pub suffix_trans : {a b c : Toks} → IsSuffix a b → IsSuffix b c → IsSuffix a c
-suffix_trans p all_of = p
-suffix_trans p (past_word t q) = past_word t (suffix_trans p q)
-suffix_trans p (past_punct m q) = past_punct m (suffix_trans p q)
-suffix_trans p (past_lit s q) = past_lit s (suffix_trans p q)
-suffix_trans p (past_group d s c q) = past_group d s c (suffix_trans p q)
-suffix_trans p (past_enter s q) = past_enter s (suffix_trans p q)
-suffix_trans p (past_leave q) = past_leave (suffix_trans p q)
+pub use Rattle.token_core.specs.laws.Follows.{suffix_trans, first_same, follows_self, follows_trans}
 
 at_same : (r k : Toks) → r ≡ k → IsSuffix k r
 at_same r k e = rw e all_of
@@ -108,20 +100,6 @@ suffix_outside (group g z y r) p e = let f : ◌≡◌ {A = Grouped} (g, z, y, r
 suffix_outside (enter s r) p e = cc
 suffix_outside (leave r) p e = past_leave (suffix_outside r p e)
 
-first-same : (o : Option Span) → first_of o o ≡ o
-first-same None = refl
-first-same (Some a) = refl
-
-first-trans : (a b c : Option Span) → first_of a b ≡ b → first_of b c ≡ c → first_of a c ≡ c
-first-trans None b c p q = refl
-first-trans (Some x) b c p q = ap (λ o. first_of o c) p ∙ q
-
-pub follows_self : (s : Stream) → Follows s s
-follows_self s = record { suffix = all_of; kept = first-same s.left; scope = refl }
-
-pub follows_trans : (a b c : Stream) → Follows a b → Follows b c → Follows a c
-follows_trans a b c p q = record { suffix = suffix_trans q.suffix p.suffix; kept = first-trans a.left b.left c.left p.kept q.kept; scope = q.scope ∙ p.scope }
-
 put_inv : (a : Span) (o : Option (Spans × Toks)) (q : Spans × Toks) → put_first a o ≡ Some q → (p : Spans × Toks) × (o ≡ Some p) × (p.1 ≡ q.1)
 put_inv a None q e = cc
 put_inv a (Some p) q e = let f : ◌≡◌ {A = Spans × Toks} (three a p.0.first p.0.second, p.1) q = cc in (p, refl, ap (λ x. x.1) f)
@@ -152,7 +130,7 @@ first-first (Some x) b = refl
 
 -- a stream that only goes on follows
 pub follows_past : (s : Stream) (k : Toks) (last : Span) → IsSuffix k s.rest → Follows s (record s { rest = k; last = last })
-follows_past s k last p = record { suffix = p; kept = first-same s.left; scope = refl }
+follows_past s k last p = record { suffix = p; kept = first_same s.left; scope = refl }
 
 next_at : (s t : Stream) (w : Ident) (o : Option (Ident × Toks)) → ((i : Ident) (k : Toks) → o ≡ Some (i, k) → IsSuffix k s.rest) → word_past s o ≡ Some (w, t) → Follows s t
 next_at s t w None h e = cc

@@ -17,6 +17,7 @@ use Rattle.token_core.proofs.Suffixes.{suffix_mark}
 use Rattle.token_core.proofs.Turns.{size_suffix, size_word, same_pair}
 use Rattle.token_core.proofs.Took.{mapped}
 use Rattle.token_core.specs.declared.mark.Mark.{Mark}
+pub use Rattle.token_core.specs.laws.Takes.{mark_takes, named_takes}
 
 size_punct : (l : Toks) (p : Punct × Toks) → as_punct (front l) ≡ Some p → size p.1 < size l
 size_punct done p e = cc
@@ -29,46 +30,6 @@ size_punct (lit x k) p e = cc
 size_punct (group d s c k) p e = cc
 size_punct (enter s k) p e = let h = size_punct k p e in omega (arith, h)
 size_punct (leave k) p e = let h = size_punct k p e in omega (arith, h)
-
-past_one : (c : ℕ) (last : Bool) (f : Toks → Option (Spans × Toks)) (l : Toks) (q : Spans × Toks) (o : Option (Punct × Toks)) → as_punct (front l) ≡ o → ((k : Toks) (p : Spans × Toks) → f k ≡ Some p → size p.1 ≤ size k) → past_next c last f o ≡ Some q → size q.1 < size l
-past_one c last f l q None h i e = cc
-past_one c true f l q (Some p) h i e = by_test (p.0.ch == c) e
-  where
-    by_test : (b : Bool) → (if b then Some (three p.0.span p.0.span p.0.span, p.1) else None) ≡ Some q → size q.1 < size l
-    by_test true e =
-        let w : ◌≡◌ {A = Spans × Toks} (three p.0.span p.0.span p.0.span, p.1) q = cc in
-        let n : size p.1 ≡ size q.1 = ap (λ (z : Spans × Toks). size z.1) w in
-        let m = size_punct l p h in
-        omega (arith, m, n)
-    by_test false e = cc
-past_one c false f l q (Some p) h i e = by_test (p.0.ch == c) (is_joint p.0.spacing) (f p.1) refl e
-  where
-    by_test : (b j : Bool) (o : Option (Spans × Toks)) → f p.1 ≡ o → (if b then (if j then put_first p.0.span o else None) else None) ≡ Some q → size q.1 < size l
-    by_test true true None g e = cc
-    by_test true true (Some z) g e =
-        let w : ◌≡◌ {A = Spans × Toks} (three p.0.span z.0.first z.0.second, z.1) q = cc in
-        let n : size z.1 ≡ size q.1 = ap (λ (z : Spans × Toks). size z.1) w in
-        let m = size_punct l p h in
-        let k = i p.1 z g in
-        omega (arith, m, n, k)
-    by_test true false o g e = cc
-    by_test false j o g e = cc
-
-mark_at : (s t : Stream) (e : Refusal) (m : Spans) (o : Option (Spans × Toks)) → ((p : Spans × Toks) → o ≡ Some p → size p.1 < size s.rest) → goes_on (λ (x : Spans). x.third) e s o ≡ Ok (m, t) → size t.rest < size s.rest
-mark_at s t e m None h k = cc
-mark_at s t e m (Some q) h k = subst (λ (z : Stream). size z.rest < size s.rest) (same_pair q.0 m (past s q.1 q.0.third) t k).1 (h q refl)
-
-pub mark_takes : (c : ℕ) (cs : List ℕ) (name : Bytes) (s t : Stream) (m : Spans) → read_mark (c ∷ cs) name s ≡ Ok (m, t) → size t.rest < size s.rest
-unfolding read_mark
-mark_takes c cs name s t m e =
-    mark_at s t (expected name s) m (past_mark (c ∷ cs) s.rest)
-    (λ p g. past_one c (is_last cs) (past_mark cs) s.rest p (as_punct (front s.rest)) refl (λ k z h. size_suffix (suffix_mark cs k z h)) g) e
-
--- a named mark
-pub named_takes : (n l c : ℕ) (cs : List ℕ) → chars_of n ≡ c ∷ cs → (s : Stream) (a : Mark n l) (t : Stream) → read n l s ≡ Ok (a, t) → size t.rest < size s.rest
-named_takes n l c cs h s a t e =
-    let m = mapped (read_mark (chars_of n) (mark_name n) s) (mark_of n l) a t e in
-    mark_takes c cs (mark_name n) s t m.value (ap (λ z. read_mark z (mark_name n) s) (sym h) ∙ m.was)
 
 -- ---- lifetimes
 

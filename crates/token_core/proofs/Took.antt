@@ -15,23 +15,12 @@ use Rattle.token_core.specs.Stream.{Scope, Stream}
 use Rattle.token_core.specs.Reads.{Reader, Outcome, Body, and_then, pure, past, past_mark, put_first, three, is_joint, sees_word, read_word, next_word, read_mark, delimited, leaves, is_done, first_of, goes_on, expected}
 use Rattle.token_core.specs.Loops.{size, Many, never, joined_from, joined, listed, one, put}
 use Rattle.token_core.proofs.Turns.{chain, same_pair}
+pub use Rattle.token_core.specs.laws.Steps.{Mapped, branch, mapped}
+pub use Rattle.token_core.specs.laws.Whole.{took_all, leaves_none}
 
 -- a stream by its parts
 abbrev pub at : Toks → Option Span → Span → Scope → Stream
 at l f e sc = record { rest = l; left = f; last = e; scope = sc }
-
-pub branch : {A : Type 0} (b : Bool) (p q : Reader A) (s : Stream) (x : Outcome A) → (if b then p else q) s ≡ x → ((b ≡ true) × (p s ≡ x)) ⊎ ((b ≡ false) × (q s ≡ x))
-branch true p q s x e = inl (refl, e)
-branch false p q s x e = inr (refl, e)
-
-pub record Mapped {A B : Type 0} (o : Outcome A) (f : A → B) (b : B) (t : Stream) : Type 0 where
-  pub value : A
-  pub was : o ≡ Ok (value, t)
-  pub is : f value ≡ b
-
-pub mapped : {A B : Type 0} (o : Outcome A) (f : A → B) (b : B) (t : Stream) → and_then o (λ x. pure (f x)) ≡ Ok (b, t) → Mapped o f b t
-mapped (Ok p) f b t e = let k = same_pair (f p.0) b p.1 t e in record { value = p.0; was = ap (λ z. Ok (p.0, z)) k.1; is = k.0 }
-mapped (Err x) f b t e = cc
 
 -- ---- an identifier
 
@@ -199,28 +188,6 @@ pub took_group : (s t : Stream) (b : Body) → Visible s.rest → delimited s �
 took_group s t b v h = took_group_at s.rest s.left s.last s.scope b t v h
 
 -- ---- nothing is left
-
-ended_at : (l : Toks) (f : Option Span) (e : Span) (sc : Scope) → Visible l → leaves (at l f e sc) ≡ None → l ≡ done
-unfolding is_done
-ended_at done f e sc v h = refl
-ended_at (word j k) None e sc v h = cc
-ended_at (word j k) (Some a) e sc v h = cc
-ended_at (mark p k) None e sc v h = cc
-ended_at (mark p k) (Some a) e sc v h = cc
-ended_at (lit x k) None e sc v h = cc
-ended_at (lit x k) (Some a) e sc v h = cc
-ended_at (group d p c k) None e sc v h = cc
-ended_at (group d p c k) (Some a) e sc v h = cc
-ended_at (enter p k) f e sc v h = absurd v
-ended_at (leave k) f e sc v h = absurd v
-
-pub took_all : (t : Stream) → Visible t.rest → leaves t ≡ None → t.rest ≡ done
-took_all t v h = ended_at t.rest t.left t.last t.scope v h
-
--- where nothing was left over before, nothing is at the end
-pub leaves_none : (f : Option Span) (e : Span) (sc : Scope) → f ≡ None → leaves (at done f e sc) ≡ None
-unfolding is_done
-leaves_none f e sc h = ap (λ z. first_of z None) h
 
 -- ---- values joined by a mark
 

@@ -9,15 +9,8 @@ use Rattle.token_core.specs.Stream.{Stream}
 use Rattle.token_core.specs.Reads.{Reader, Outcome, and_then, ◌>>=◌, pure, as_word, next_word, word_past, word_if, read_word, expected, read_mark, goes_on, past, past_mark, IsSuffix, all_of, past_word, past_punct, past_lit, past_group, past_enter, past_leave}
 use Rattle.token_core.specs.Loops.{size, Many, listed_from, listed, none, one, put, after}
 use Rattle.token_core.proofs.Suffixes.{suffix_mark}
-
-pub size_suffix : {r t : Toks} → IsSuffix r t → size r ≤ size t
-size_suffix all_of = omega arith
-size_suffix (past_word t p) = let h = size_suffix p in omega (arith, h)
-size_suffix (past_punct m p) = let h = size_suffix p in omega (arith, h)
-size_suffix (past_lit s p) = let h = size_suffix p in omega (arith, h)
-size_suffix (past_group d s c p) = let h = size_suffix p in omega (arith, h)
-size_suffix (past_enter s p) = let h = size_suffix p in omega (arith, h)
-size_suffix (past_leave p) = let h = size_suffix p in omega (arith, h)
+pub use Rattle.token_core.specs.laws.Follows.{size_suffix}
+pub use Rattle.token_core.specs.laws.Steps.{Chained, chain, same_pair}
 
 pub size_word : (t : Toks) (p : Ident × Toks) → as_word (front t) ≡ Some p → size p.1 < size t
 size_word done p e = cc
@@ -30,24 +23,6 @@ size_word (lit s r) p e = cc
 size_word (group d s c r) p e = cc
 size_word (enter s r) p e = let h = size_word r p e in omega (arith, h)
 size_word (leave r) p e = let h = size_word r p e in omega (arith, h)
-
--- what a step that succeeded stood on
-pub record Chained {A B : Type 0} (o : Outcome A) (f : A → Reader B) (b : B) (t : Stream) : Type 0 where
-  pub value : A
-  pub rest : Stream
-  pub was : o ≡ Ok (value, rest)
-  pub goes : f value rest ≡ Ok (b, t)
-
-pub chain : {A B : Type 0} (o : Outcome A) (f : A → Reader B) (b : B) (t : Stream) → and_then o f ≡ Ok (b, t) → Chained o f b t
-chain (Err x) f b t e = cc
-chain (Ok p) f b t e = record { value = p.0; rest = p.1; was = refl; goes = e }
-
-pub same_pair : {A : Type 0} (x y : A) (s t : Stream) → ◌≡◌ {A = Outcome A} (Ok (x, s)) (Ok (y, t)) → (x ≡ y) × (s ≡ t)
-same_pair {A} x y s t e =
-    let p : A × Stream = (x, s) in
-    let q : A × Stream = (y, t) in
-    let k : p ≡ q = cc in
-    (ap (λ (z : A × Stream). z.0) k, ap (λ (z : A × Stream). z.1) k)
 
 takes_at : (s t : Stream) (test : Bytes → Bool) (e : Refusal) (w : Ident) (o : Option (Ident × Toks)) → ((p : Ident × Toks) → o ≡ Some p → size p.1 < size s.rest) → word_if test e (word_past s o) ≡ Ok (w, t) → size t.rest < size s.rest
 takes_at s t test e w None h k = cc

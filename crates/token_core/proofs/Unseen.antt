@@ -10,6 +10,7 @@ use Rattle.token_core.specs.Lifetimes.{sees_lifetime}
 use Rattle.token_core.specs.Reads.{past_mark, past_next, is_last, three, put_first, is_joint, sees_mark, sees_word}
 use Rattle.token_core.specs.Spellings.{IsMark, is_mark}
 use Rattle.token_core.proofs.MarkSpells.{longer_unseen}
+pub use Rattle.token_core.specs.laws.Apart.{word_no_mark}
 
 -- ---- marks
 
@@ -30,17 +31,6 @@ no_mark-other c cs p r e = by_last (is_last cs)
     by_last : (last : Bool) → let o : Option (Spans × Toks) = past_next c last (past_mark cs) (Some (p, r)) in is_some o ≡ false
     by_last true = ap (λ (b : Bool). let o : Option (Spans × Toks) = if b then Some (three p.span p.span p.span, r) else None in is_some o) e
     by_last false = ap (λ (b : Bool). let o : Option (Spans × Toks) = if b then (if is_joint p.spacing then put_first p.span (past_mark cs r) else None) else None in is_some o) e
-
--- a word stands there
-pub word_no_mark : (test : Bytes → Bool) (c : ℕ) (cs : List ℕ) (k : Toks) → sees_word test k ≡ true → sees_mark (c ∷ cs) k ≡ false
-unfolding sees_word sees_mark
-word_no_mark test c cs done h = refl
-word_no_mark test c cs (word i k) h = refl
-word_no_mark test c cs (mark p k) h = cc h
-word_no_mark test c cs (lit x k) h = refl
-word_no_mark test c cs (group x s y k) h = refl
-word_no_mark test c cs (enter s k) h = word_no_mark test c cs k h
-word_no_mark test c cs (leave k) h = word_no_mark test c cs k h
 
 -- ---- words, lifetimes and groups
 

@@ -25,6 +25,7 @@ use Rattle.token_core.proofs.Took.{at, mapped, took_word}
 use Rattle.token_core.proofs.Steps.{Reads_to, link}
 use Rattle.token_core.proofs.Rebuilds.{tree-ident, tree-punct}
 use Rattle.token_core.proofs.MarkSpells.{Taken, joint_is}
+pub use Rattle.token_core.specs.laws.Seen.{word_seen}
 
 -- ---- words
 
@@ -43,10 +44,6 @@ module _ {n : ℕ} where
 
   pub word_complete : (w : Word n) (l r : Toks) (f : Option Span) (e : Span) (sc : Scope) → IsWord w l r → Reads_to (read_named n) w l r f e sc
   word_complete w l r f e sc (is_word {a = a}) = record { last = a; reads = link _ (read_text (text_of n) (word_name n) a r f e sc) refl }
-
-  pub word_seen : (w : Word n) (l r : Toks) → IsWord w l r → sees_word (is_text (text_of n)) l ≡ true
-  unfolding sees_word
-  word_seen w l r is_word = (bytes_eq-Decides (text_of n) (text_of n)).1 refl
 
   pub word_again : (w : Word n) (l r h : Toks) → IsWord w l r → IsWord w (row (p.word w) h) h
   word_again w l r h (is_word {a = a}) = subst (λ z. IsWord (word_of n a) z h) (sym (tree-ident (ident (text_of n) a) h)) is_word

@@ -1,7 +1,4 @@
-pub mod Refused
-pub mod Heads
 pub mod Both
-pub mod Same
 pub mod Lists
 pub mod Groups
 pub mod Options

@@ -44,3 +44,4 @@ pub mod Sees
 pub mod Spellings
 pub mod Grammars
 pub mod fronts
+pub mod laws

@@ -1,5 +1,7 @@
 pub mod Both
-pub mod Same
 pub mod Lists
 pub mod Groups
 pub mod Options
+pub mod Same
+pub mod Either
+pub mod Alone

@@ -206,6 +206,31 @@ impl<A: Parse, B: Parse> Parse for (A, B) {
     }
 }
 
+/// Both, one after the other.
+impl<P: Parser + Drop, Q: Parser + Drop> Parser for (P, Q) {
+    type Output = (P::Output, Q::Output);
+
+    ghost can_parse = { λ p. P.can_parse p.0 × Q.can_parse p.1 };
+
+    ghost reads = { λ p. both.ReadBoth (P.reads p.0) (Q.reads p.1) };
+
+    ghost refuses = { λ p. both.RefusedBoth (P.reads p.0) (P.refuses p.0) (Q.refuses p.1) };
+
+    ghost fronts = { λ p. both.pairs (P.fronts p.0) (Q.fronts p.1) };
+
+    #[tactic(auto, using(crate::specs::Reads::no_promise, crate::proofs::Suffixes::follows))]
+    fn parse(
+        self,
+        alloc: Global,
+        input: &mut ParseStream<'_>,
+    ) -> Result<(P::Output, Q::Output), Error> {
+        let (p, q) = self;
+        let first = p.parse(alloc, input)?;
+        let second = q.parse(alloc, input)?;
+        Ok((first, second))
+    }
+}
+
 impl<'a> ParseStream<'a> {
     /// Reads by a function.
     pub fn call<T: Drop, F: FnOnce(Global, &mut ParseStream<'_>) -> Result<T, Error>>(

@@ -1,382 +1,215 @@
--- The body of an item: how it is read, and what is promised of it by what is promised of its fields, or of its `;`.
-use Rattle.std.specs.Prelude.{◌≢◌}
-use Rattle.std.proofs.Common.{◌≡◌, ℕ, suc, Bool, true, false, if◌then◌else◌, List, [], ◌∷◌, Option, Some, None, Ok, Err, refl, sym, ◌∙◌, ap, subst, arith}
-use Rattle.token_core.specs.declared.error.ErrorKind.TheVariants.{OutOfMemory}
+-- A body: how it is read, and what is promised of it by what is promised of its fields, or of its `;`.
+use Rattle.std.proofs.Common.{◌≡◌, ◌⊎◌, Bool, true, false, if◌then◌else◌, List, [], ◌∷◌, map, inl, inr, Ok, Err, refl, sym, ◌∙◌, ap, subst}
 use Rattle.token_core.specs.declared.span.DelimSpan.{DelimSpan}
-use Rattle.token_core.specs.declared.span.Span.{Span}
-use Rattle.token_core.specs.declared.token.Brace.{Brace}
-use Rattle.token_core.specs.declared.tree.Delimiter.{Delimiter}
-use Rattle.token_core.specs.declared.tree.Delimiter.TheVariants as d
-use Rattle.token_core.specs.Fronted.{Begun, FrontAgain, Fronting, Fronted, ReadTo, printed_on}
-use Rattle.token_core.specs.Front.{front}
-use Rattle.token_core.specs.Groups.{brace, brace_name, opened}
-use Rattle.token_core.specs.Loops.{Many, listed, size}
-use Rattle.token_core.specs.Prints as p
-use Rattle.token_core.specs.Reads as reads
-use Rattle.token_core.specs.Reads.{Fails, Gives, Outcome, Reader, closing, expected, finished, first_of, in_group, inside, leaves, open_group, past, same_delimiter, sees_group}
-use Rattle.token_core.specs.Rebuilt.{Visible}
+use Rattle.token_core.specs.declared.tree.Delimiter.TheVariants.{Brace}
+use Rattle.token_core.specs.Fronted.{Fronting, Fronted, Fronts, KeepsFront, said, given}
+use Rattle.token_core.specs.Grammars as grammars
+use Rattle.token_core.specs.Groups.{brace, brace_name}
+use Rattle.token_core.specs.Loops.{Many}
+use Rattle.token_core.specs.Reads.{Outcome, Reader, Fails, Gives, and_then, expected, in_group, pure, sees_group}
 use Rattle.token_core.specs.Refusal.{Refusal}
-use Rattle.token_core.specs.Spellings.{AreChars, last_char, more_chars, IsMark, is_mark}
-use Rattle.token_core.specs.Stream.{Scope, Stream}
-use Rattle.token_core.specs.Terminated.{Terminates, Refused}
+use Rattle.token_core.specs.Stream.{Stream}
+use Rattle.token_core.specs.Terminated.{Answers, Refused}
 use Rattle.token_core.specs.Tokens as token
-use Rattle.token_core.specs.Toks.{Toks, done, word, mark, lit, group, enter, leave}
-use Rattle.token_core.proofs.MarkSpells.{mark_seen}
-use Rattle.token_core.proofs.Rebuilds.{stream-trees, visible-tree}
-use Rattle.token_core.proofs.Steps.{chosen, link}
-use Rattle.token_core.proofs.Took.{at}
-use Rattle.token_core.proofs.Turns.{same_pair}
+use Rattle.token_core.specs.Toks.{Toks, done}
+use Rattle.token_core.specs.fronts.Alone.{alone}
+use Rattle.token_core.specs.fronts.Either as either
+use Rattle.token_core.specs.fronts.Groups.{IsGrouped, holds, NotIn, ReadIn, grouped, groupings}
+use Rattle.token_core.specs.fronts.Lists.{each_plain, listing, listings}
+use Rattle.token_core.specs.fronts.Same.{Alike}
+use Rattle.token_core.specs.laws.Either.{left_kept, left_stopped, nothing_kept, right_kept, right_stopped}
+use Rattle.token_core.specs.laws.Same.{answered_alike, refused_alike}
+use Rattle.token_core.specs.laws.Apart.{mark_no_group}
+use Rattle.token_core.specs.laws.Seen.{group_seen, mark_seen}
+use Rattle.token_core.specs.laws.Steps.{branch, chosen, group_fails, group_gives, link, mapped, stopped}
+use Rattle.token_core.specs.laws.Takes.{named_takes}
+use Rattle.token_core.specs.laws.Turns.{turns_fail, turns_give}
 use Rattle.item_small.specs.declared.item.BodyOf.{BodyOf}
 use Rattle.item_small.specs.declared.item.BodyOf.TheVariants as b
 use Rattle.item_small.specs.declared.item.FieldOf.{FieldOf}
-use Rattle.item_small.specs.item.Normal as normal
 use Rattle.item_small.specs.item.Promises as promises
 use Rattle.item_small.specs.item.Promises.{FieldFits, FieldRead, FieldRefused}
 use Rattle.item_small.specs.item.Reading as reading
-use Rattle.item_small.specs.item.Reading.{comma}
-use Rattle.item_small.specs.item.Spelling.{IsBody, IsField, a_field, named, unit}
-use Rattle.item_small.specs.item.Trees.{Comma, Semi}
-use Rattle.token_core.proofs.fronts_laws.Heads.{at_end, no_left}
-use Rattle.item_small.proofs.front_laws.Tokens.{mark_front, mark_fronted, mark_refused}
-use Rattle.token_core.proofs.fronts_laws.Refused.{stopped}
-use Rattle.item_small.proofs.item_laws.Ends.{name_goes}
-use Rattle.item_small.proofs.item_laws.Fields as list
+use Rattle.item_small.specs.item.Spelling.{IsBody, named, unit}
+use Rattle.item_small.specs.item.Trees.{Comma, Fields, Semi}
+use Rattle.item_small.proofs.item_laws.Fields.{comma, field_joins}
 
--- ---- braces
+abbrev semi : Fronting Semi
+semi = grammars.mark 24 1
 
--- the braces at the front, with their child stream
-pub record Braces (s : Stream) (x : DelimSpan) (c t : Stream) : Type 0 where
-  pub content : Toks
-  pub is : s.rest ≡ group d.Brace x content t.rest
-  pub child : c ≡ inside s x content t.rest
-  pub left : t.left ≡ s.left
+abbrev no_other : Fronting ⊥
+no_other = either.nothing (expected reading.body_name)
 
-brace_is : (x : Delimiter) → same_delimiter x d.Brace ≡ true → x ≡ d.Brace
-brace_is d.Parenthesis e = cc
-brace_is d.Brace e = refl
-brace_is d.Bracket e = cc
-brace_is d.None e = cc
-
-opens_if : (w : Delimiter) (y : DelimSpan) (i k : Toks) (f : Option Span) (e : Span) (sc : Scope) (r : Refusal) (x : DelimSpan) (c t : Stream) (z : Bool) → same_delimiter w d.Brace ≡ z →
-    ◌≡◌ {A = Outcome (DelimSpan × Stream)} (if z then Ok ((y, inside (at (group w y i k) f e sc) y i k), past (at (group w y i k) f e sc) k y.closing) else Err r) (Ok ((x, c), t)) → Braces (at (group w y i k) f e sc) x c t
-opens_if w y i k f e sc r x c t true h q =
-    let s = at (group w y i k) f e sc in
-    let g = same_pair (y, inside s y i k) (x, c) (past s k y.closing) t q in
-    let gx : y ≡ x = ap (λ (m : DelimSpan × Stream). m.0) g.0 in
-    let gc : inside s y i k ≡ c = ap (λ (m : DelimSpan × Stream). m.1) g.0 in
-    subst (λ (m : DelimSpan). Braces s m c t) gx
-    (subst (λ (m : Stream). Braces s y m t) gc
-    (subst (λ (m : Stream). Braces s y (inside s y i k) m) g.1 (record { content = i; is = ap (λ m. group m y i k) (brace_is w h); child = refl; left = refl })))
-opens_if w y i k f e sc r x c t false h q = cc
-
-opens_at : (l : Toks) (f : Option Span) (e : Span) (sc : Scope) (x : DelimSpan) (c t : Stream) → Visible l → open_group d.Brace brace_name (at l f e sc) ≡ Ok ((x, c), t) → Braces (at l f e sc) x c t
-unfolding open_group
-opens_at done f e sc x c t v h = cc
-opens_at (word i k) f e sc x c t v h = cc
-opens_at (mark m k) f e sc x c t v h = cc
-opens_at (lit y k) f e sc x c t v h = cc
-opens_at (group w y i k) f e sc x c t v h = opens_if w y i k f e sc (expected brace_name (at (group w y i k) f e sc)) x c t (same_delimiter w d.Brace) refl h
-opens_at (enter y k) f e sc x c t v h = absurd v
-opens_at (leave k) f e sc x c t v h = absurd v
-
-pub opens : (s : Stream) (x : DelimSpan) (c t : Stream) → Visible s.rest → open_group d.Brace brace_name s ≡ Ok ((x, c), t) → Braces s x c t
-opens s x c t v h = opens_at s.rest s.left s.last s.scope x c t v h
-
--- the token of braces, as they are opened
-pub braces_opened : (o : Outcome (DelimSpan × Stream)) (y : Brace) (c t : Stream) → opened brace o ≡ Ok ((y, c), t) → o ≡ Ok ((y.span, c), t)
-braces_opened (Err e) y c t h = cc
-braces_opened (Ok q) y c t h =
-    let g = same_pair (brace q.0.0, q.0.1) (y, c) q.1 t h in
-    ap (λ (m : Brace × Stream). Ok ((m.0.span, m.1), q.1)) g.0 ∙ ap (λ (m : Stream). Ok ((y.span, c), m)) g.1
-
-pub braces_refused : (o : Outcome (DelimSpan × Stream)) (e : Refusal) → opened brace o ≡ Err e → o ≡ Err e
-braces_refused (Err r) e h = cc
-braces_refused (Ok q) e h = cc
-
-pub sees_brace : (x : DelimSpan) (c k : Toks) → sees_group d.Brace (group d.Brace x c k) ≡ true
-unfolding sees_group
-sees_brace x c k = refl
-
-opens_there : (x : DelimSpan) (c k : Toks) (f : Option Span) (e : Span) (sc : Scope) → open_group d.Brace brace_name (at (group d.Brace x c k) f e sc) ≡ Ok ((x, inside (at (group d.Brace x c k) f e sc) x c k), at k f x.closing sc)
-unfolding open_group
-opens_there x c k f e sc = refl
-
-refused_if : (x : DelimSpan) (c k : Toks) (s : Stream) (r e : Refusal) (z : Bool) → z ≡ true → ◌≡◌ {A = Outcome (DelimSpan × Stream)} (if z then Ok ((x, inside s x c k), past s k x.closing) else Err r) (Err e) → ⊥
-refused_if x c k s r e true f h = absurd (cc h)
-refused_if x c k s r e false f h = absurd (cc f)
-
-never : (l : Toks) (s : Stream) (e : Refusal) → sees_group d.Brace l ≡ true → reads.opened d.Brace (expected brace_name s) s (reads.as_group (front l)) ≡ Err e → ⊥
-unfolding sees_group
-never done s e z h = absurd (cc z)
-never (word i k) s e z h = absurd (cc z)
-never (mark i k) s e z h = absurd (cc z)
-never (lit i k) s e z h = absurd (cc z)
-never (group w x c k) s e z h = refused_if x c k s (expected brace_name s) e (same_delimiter w d.Brace) z h
-never (enter x k) s e z h = never k s e z h
-never (leave k) s e z h = never k s e z h
-
-never_refused : (s : Stream) (e : Refusal) → sees_group d.Brace s.rest ≡ true → open_group d.Brace brace_name s ≡ Err e → ⊥
-unfolding open_group
-never_refused s e z h = never s.rest s e z h
-
--- no mark stands there
-chars_no_brace : (clear : Bool) (all : List ℕ) (c : ℕ) (cs : List ℕ) (ss : List Span) (x : DelimSpan) (i k l r : Toks) → l ≡ group d.Brace x i k → AreChars clear all (c ∷ cs) ss l r → ⊥
-chars_no_brace clear all c cs ss x i k l r e (last_char h) = absurd (cc e)
-chars_no_brace clear all c cs ss x i k l r e (more_chars h) = absurd (cc e)
-
-semi_no_brace : (clear : Bool) (q : Semi) (x : DelimSpan) (i k l r : Toks) → l ≡ group d.Brace x i k → IsMark clear q l r → ⊥
-semi_no_brace clear q x i k l r e (is_mark {ss = ss} h) = chars_no_brace clear (59 ∷ []) 59 [] ss x i k l r e h
-
--- no braces stand where a mark does
-chars_brace : (clear : Bool) (all : List ℕ) (c : ℕ) (cs : List ℕ) (ss : List Span) (l r : Toks) → AreChars clear all (c ∷ cs) ss l r → sees_group d.Brace l ≡ false
-unfolding sees_group
-chars_brace clear all c cs ss l r (last_char h) = refl
-chars_brace clear all c cs ss l r (more_chars h) = refl
-
-abbrev Closing : Fronting Semi
-Closing = mark_front {n = 24} {k = 1}
-
-none_first : (f g : Option Span) → f ≡ None → first_of f g ≡ g
-none_first None g e = refl
-none_first (Some a) g e = cc
-
--- ---- what is read in braces
-
-module _ {A : Type 0} (q : Reader A) where
-  inside_read : (x : DelimSpan) (c k : Toks) (f : Option Span) (e : Span) (sc : Scope) (v : A) (u : Stream) → q (inside (at (group d.Brace x c k) f e sc) x c k) ≡ Ok (v, u) → f ≡ None → leaves u ≡ None →
-      in_group d.Brace brace_name q (at (group d.Brace x c k) f e sc) ≡ Ok ((x, v), at k f x.closing sc)
-  unfolding finished
-  inside_read x c k f e sc v u h n o =
-      link (λ g. λ s. closing g.0 s (q g.1)) (opens_there x c k f e sc)
-      (ap (closing x (at k f x.closing sc)) h ∙ ap (λ m. Ok ((x, v), at k m x.closing sc)) (ap (first_of f) o ∙ none_first f None n ∙ sym n))
-
-  pub group_read : (s : Stream) (x : DelimSpan) (c k : Toks) (v : A) (u : Stream) → s.rest ≡ group d.Brace x c k → q (inside s x c k) ≡ Ok (v, u) → s.left ≡ None → leaves u ≡ None → in_group d.Brace brace_name q s ≡ Ok ((x, v), past s k x.closing)
-  group_read s x c k v u e h n o =
-      subst (λ l. in_group d.Brace brace_name q (at l s.left s.last s.scope) ≡ Ok ((x, v), at k s.left x.closing s.scope)) (sym e) (inside_read x c k s.left s.last s.scope v u h n o)
-
--- ---- over the fronts of attributes and types
+same_marks : (cs : List Comma) → map (λ (c : Comma). c) cs ≡ cs
+same_marks [] = refl
+same_marks (c ∷ cs) = ap (λ z. c ∷ z) (same_marks cs)
 
 module _ {A T : Type 0} (a : Fronting A) (t : Fronting T) where
-  abbrev pub Field : Fronting (FieldOf A T)
-  Field = promises.field a t
+  abbrev Braces : Type 0
+  Braces = DelimSpan × Fields A T
 
-  abbrev pub Body : Fronting (BodyOf A T)
+  abbrev Choice : Type 0
+  Choice = Braces ⊎ (Semi ⊎ ⊥)
+
+  abbrev Field : Fronting (FieldOf A T)
+  Field = alone (promises.field a t)
+
+  abbrev Body : Fronting (BodyOf A T)
   Body = promises.body a t
 
-  abbrev pub read_fields : Reader (Many (FieldOf A T) Comma)
-  read_fields = reading.fields a.grammar.reader t.grammar.reader
+  -- braces with fields, or `;`, or what is refused
+  abbrev Grouped : Fronting Braces
+  Grouped = grouped Brace brace_name (listing Field comma)
 
-  -- ---- how they are read
+  abbrev Other : Fronting (Semi ⊎ ⊥)
+  Other = either.either token.sees_semi semi no_other
 
-  pub fields_read : (c r : Stream) (v : Many (FieldOf A T) Comma) → Terminates (FieldRead a t) (Gives comma) c v.0 v.1 r → read_fields c ≡ Ok (v, r)
-  fields_read c r v i = list.read_list Field.grammar.reader (FieldRead a t) (λ _ _ _ h. h.gives) (λ _ _ _ h. h.within) c r v.0 v.1 i
+  abbrev Row : Fronting Choice
+  Row = either.either (sees_group Brace) Grouped Other
 
-  pub fields_refused : (c : Stream) (e : Refusal) → Refused (FieldRead a t) (Gives comma) (FieldRefused a t) (Fails comma) e c → read_fields c ≡ Err e
-  fields_refused c e i = list.refused_list Field.grammar.reader (FieldRead a t) (λ _ _ _ h. h.gives) (λ _ _ _ h. h.within) (FieldRefused a t) (λ _ _ h. h.fails) c e i
+  abbrev to : Choice → BodyOf A T
+  to (inl x) = b.Named (brace x.0) x.1
+  to (inr (inl q)) = b.Unit q
+  to (inr (inr x)) = absurd x
 
-  abbrev read_named : Reader (BodyOf A T)
-  read_named = reading.named a.grammar.reader t.grammar.reader
+  abbrev from : BodyOf A T → Choice
+  from (b.Named s v) = inl (s.span, v)
+  from (b.Unit q) = inr (inl q)
 
-  pub not_opened : (s : Stream) (e : Refusal) → opened brace (open_group d.Brace brace_name s) ≡ Err e → read_named s ≡ Err e
-  not_opened s e h = stopped _ e (stopped (λ g. λ u. closing g.0 u (read_fields g.1)) e (braces_refused (open_group d.Brace brace_name s) e h))
+  -- ---- how it is read
 
-  module _ (s u c : Stream) (x : Brace) (o : opened brace (open_group d.Brace brace_name s) ≡ Ok ((x, c), u)) where
-    pub named_refused : (e : Refusal) → read_fields c ≡ Err e → read_named s ≡ Err e
-    named_refused e h = stopped _ e (link (λ g. λ z. closing g.0 z (read_fields g.1)) (braces_opened (open_group d.Brace brace_name s) x c u o) (ap (closing x.span u) h))
+  abbrev pub In : Stream → Braces → Stream → Type 0
+  In = ReadIn Brace brace_name (Answers (FieldRead a t) (Gives comma.grammar.reader))
 
-    pub named_read : (r : Stream) (v : Many (FieldOf A T) Comma) → read_fields c ≡ Ok (v, r) → read_named s ≡ Ok (b.Named x v, finished r u)
-    named_read r v h = link _ (link (λ g. λ z. closing g.0 z (read_fields g.1)) (braces_opened (open_group d.Brace brace_name s) x c u o) (ap (closing x.span u) h)) refl
+  abbrev pub NoneIn : Stream → Refusal → Type 0
+  NoneIn = NotIn Brace brace_name (λ s e. Refused (FieldRead a t) (Gives comma.grammar.reader) (FieldRefused a t) (Fails comma.grammar.reader) e s)
 
-  module _ (fits : FieldFits a t) where
-    field_starts : (x : FieldOf A T) (l k : Toks) → IsField a t true x l k → reads.is_done l ≡ false
-    field_starts x l k (a_field {x = y} {i = i} {m = m} {n = n} h j c q) = fits.starts y l m h (name_goes i m n j)
+  module _ (s : Stream) (w : sees_group Brace s.rest ≡ true) where
+    named_read : (u : Stream) (x : Braces) → Grouped.grammar.reader s ≡ Ok (x, u) → Body.grammar.reader s ≡ Ok (to (inl x), u)
+    unfolding reading.body
+    named_read u x h = chosen (sees_group Brace s.rest) true _ _ s _ w (link _ h refl)
 
-    ends : (k : Toks) → promises.ends_field k ≡ true → promises.ends_field k ≡ true
-    ends k o = o
+    pub braces_read : (u : Stream) (x : Braces) → In s x u → Body.grammar.reader s ≡ Ok (to (inl x), u)
+    braces_read u x h =
+        named_read u x (group_gives Brace brace_name _ _
+        (turns_give Field.grammar.reader comma.grammar.reader (named_takes 4 1 44 [] refl) (FieldRead a t) (λ _ _ _ k. k.gives) (λ _ _ _ k. k.within)) s u x h)
 
-    keeps : (x : FieldOf A T) (k : Toks) → promises.ends_field k ≡ true → Field.grammar.plain x → Field.plain x k
-    keeps x k o h = (h.0, fits.ty_plain x.ty k o h.1)
+    pub braces_refused : (e : Refusal) → NoneIn s e → Body.grammar.reader s ≡ Err e
+    unfolding reading.body
+    braces_refused e h =
+        chosen (sees_group Brace s.rest) true _ _ s _ w (stopped _ e (group_fails Brace brace_name _ _
+        (turns_fail Field.grammar.reader comma.grammar.reader (named_takes 4 1 44 [] refl) (FieldRead a t) (λ _ _ _ k. k.gives) (λ _ _ _ k. k.within) (FieldRefused a t) (λ _ _ k. k.fails)) s e h))
 
-    -- ---- the print of fields in braces
+  module _ (s : Stream) (w : sees_group Brace s.rest ≡ false) where
+    module _ (v : token.sees_semi s.rest ≡ true) where
+      pub unit_read : (u : Stream) (q : Semi) → semi.grammar.reader s ≡ Ok (q, u) → Body.grammar.reader s ≡ Ok (b.Unit q, u)
+      unfolding reading.body
+      unit_read u q h = chosen (sees_group Brace s.rest) false _ _ s _ w (chosen (token.sees_semi s.rest) true _ _ s _ v (link _ h refl))
 
-    plain_fields : (xs : List (FieldOf A T)) → promises.AllPlain a t xs → list.Plain Field xs
-    plain_fields [] h = tt
-    plain_fields (x ∷ xs) h = (h.0, plain_fields xs h.1)
+      pub unit_refused : (e : Refusal) → semi.grammar.reader s ≡ Err e → Body.grammar.reader s ≡ Err e
+      unfolding reading.body
+      unit_refused e h = chosen (sees_group Brace s.rest) false _ _ s _ w (chosen (token.sees_semi s.rest) true _ _ s _ v (stopped _ e h))
 
-    module _ (x : DelimSpan) (xs : List (FieldOf A T)) (cs : List Comma) (k : Toks) where
-      abbrev this : BodyOf A T
-      this = b.Named (brace x) (xs, cs)
+    pub none_read : token.sees_semi s.rest ≡ false → Body.grammar.reader s ≡ Err (expected reading.body_name s)
+    unfolding reading.body
+    none_read v = chosen (sees_group Brace s.rest) false _ _ s _ w (chosen (token.sees_semi s.rest) false _ _ s _ v refl)
 
-      printed_braces : printed_on Body this k ≡ group d.Brace x (list.printed_list Field xs cs) k
-      printed_braces = visible-tree d.Brace (list.shown Field xs cs) x k tt ∙ ap (λ z. group d.Brace x z k) (stream-trees (list.shown Field xs cs) done)
+  -- ---- what is promised
 
-      module _ (h : list.Again Field true xs cs) (v : Visible k) where
-        braces_read : (s : Stream) → s.left ≡ None → s.rest ≡ printed_on Body this k → ReadTo Body (normal.body a t this) s k
-        unfolding reading.body listed
-        braces_read s n e =
-            let q = e ∙ printed_braces in
-            let child : Stream = inside s x (list.printed_list Field xs cs) k in
-            let r = h.again (suc (size child.rest)) child refl refl (omega arith) in
-            let g = group_read read_fields s x (list.printed_list Field xs cs) k (list.normals Field xs, cs) r.0 q r.1 n (at_end r.0 r.2 r.3) in
-            (past s k x.closing, chosen (sees_group d.Brace s.rest) true _ _ s _ (ap (sees_group d.Brace) q ∙ sees_brace x _ k) (link _ g refl), refl, n)
+  parted : (clear : Bool) (x : BodyOf A T) (l k : Toks) → IsBody a t clear x l k → Row.begins clear (from x) l k
+  parted clear x l k (named {s = s} {l = c} i) = (group_seen Brace s c k, holds i)
+  parted clear x l k (unit {q = q} i) = let v = mark_seen clear q l k i in (mark_no_group 59 [] Brace l v, (v, i))
 
-        braces_again : FrontAgain Body this k
-        braces_again = record {
-          spells = subst (λ l. IsBody a t true (normal.body a t this) l k) (sym printed_braces) (named h.spells);
-          visible = subst Visible (sym printed_braces) (tt, h.visible, v);
-          stays = ap (λ z. b.Named (brace x) (z, cs)) h.stays;
-          same = ap (λ z. p.group d.Brace z x) h.same;
-          again = braces_read;
-        }
+  group_made : (clear : Bool) (x : Braces) (l k : Toks) → IsGrouped Brace (listing Field comma) clear x l k → IsBody a t clear (to (inl x)) l k
+  group_made clear x l k (holds i) = named i
 
-    -- ---- fields in braces that were read
+  made : (clear : Bool) (x : Choice) (l k : Toks) → Row.begins clear x l k → IsBody a t clear (to x) l k
+  made clear (inl x) l k i = group_made clear x l k i.1
+  made clear (inr (inl q)) l k i = unit i.1.1
+  made clear (inr (inr x)) l k i = absurd x
 
-    module _ (s c u r : Stream) (x : DelimSpan) (xs : List (FieldOf A T)) (cs : List Comma) (o : open_group d.Brace brace_name s ≡ Ok ((x, c), u)) (i : Terminates (FieldRead a t) (Gives comma) c xs cs r) where
-      abbrev end : Stream
-      end = finished r u
+  fields_plain : (xs : List (FieldOf A T)) (cs : List Comma) → promises.AllPlain a t xs → each_plain Field comma xs cs done
+  fields_plain [] cs h = tt
+  fields_plain (x ∷ xs) [] h = h.0
+  fields_plain (x ∷ xs) (c ∷ cs) h = (h.0, tt, fields_plain xs cs h.1)
 
-      abbrev made : BodyOf A T
-      made = b.Named (brace x) (xs, cs)
+  body_plain : (x : Choice) (k : Toks) → Body.plain (to x) k → Row.plain x k
+  body_plain (inl x) k h = fields_plain x.1.0 x.1.1 h
+  body_plain (inr (inl q)) k h = tt
+  body_plain (inr (inr x)) k h = absurd x
 
-      module _ (n : s.left ≡ None) (v : Visible s.rest) where
-        at_front : Braces s x c u
-        at_front = opens s x c u v o
+  back : (x : BodyOf A T) → to (from x) ≡ x
+  back (b.Named s v) = refl
+  back (b.Unit q) = refl
 
-        seen : Visible (group d.Brace x at_front.content u.rest)
-        seen = subst Visible at_front.is v
+  normal : (x : Choice) → Body.grammar.normal (to x) ≡ to (Row.grammar.normal x)
+  normal (inl x) = ap (λ z. b.Named (brace x.0) (map (promises.field a t).grammar.normal x.1.0, z)) (sym (same_marks x.1.1))
+  normal (inr (inl q)) = refl
+  normal (inr (inr x)) = absurd x
 
-        child_left : c.left ≡ None
-        child_left = ap (λ (z : Stream). z.left) at_front.child
+  print : (x : Choice) → Body.grammar.print (to x) ≡ Row.grammar.print x
+  print (inl x) = refl
+  print (inr (inl q)) = refl
+  print (inr (inr x)) = absurd x
 
-        child_rest : c.rest ≡ at_front.content
-        child_rest = ap (λ (z : Stream). z.rest) at_front.child
+  other_reads : (s u : Stream) (x : Semi ⊎ ⊥) → sees_group Brace s.rest ≡ false → Other.grammar.reader s ≡ Ok (x, u) → Body.grammar.reader s ≡ Ok (to (inr x), u)
+  other_reads s u x w e =
+      elim (branch (token.sees_semi s.rest) _ _ s (Ok (x, u)) e) [
+        | inl y ↦ let m = mapped (semi.grammar.reader s) (λ q. inl q) x u y.1 in subst (λ z. Body.grammar.reader s ≡ Ok (to (inr z), u)) m.is (unit_read s w y.0 u m.value m.was)
+        | inr y ↦ absurd (cc y.1)
+      ]
 
-        child_seen : Visible c.rest
-        child_seen = subst Visible (sym child_rest) seen.1
+  reads : (s u : Stream) (x : Choice) → Row.grammar.reader s ≡ Ok (x, u) → Body.grammar.reader s ≡ Ok (to x, u)
+  reads s u x e =
+      elim (branch (sees_group Brace s.rest) _ _ s (Ok (x, u)) e) [
+        | inl y ↦ let m = mapped (Grouped.grammar.reader s) (λ z. inl z) x u y.1 in subst (λ z. Body.grammar.reader s ≡ Ok (to z, u)) m.is (named_read s y.0 u m.value m.was)
+        | inr y ↦ let m = mapped (Other.grammar.reader s) (λ z. inr z) x u y.1 in subst (λ z. Body.grammar.reader s ≡ Ok (to z, u)) m.is (other_reads s u m.value y.0 m.was)
+      ]
 
-        end_left : end.left ≡ leaves r
-        unfolding finished
-        end_left = none_first u.left (leaves r) (at_front.left ∙ n)
+  alike : Alike Row Body to from
+  alike = record { back = back; parted = parted; made = made; follows = λ k o. refl; normal = normal; print = print; plain = body_plain; reads = reads }
 
-        end_rest : end.rest ≡ u.rest
-        unfolding finished
-        end_rest = refl
+  other_parts : either.Parts token.sees_semi semi no_other
+  other_parts = record { seen = λ q l k i. mark_seen true q l k i; unseen = λ x l k i. absurd x }
 
-        fields_told : r.left ≡ None → list.Told Field true c xs cs r
-        fields_told e = list.told Field ends field_starts keeps (FieldRead a t) (λ _ _ _ h. h.within) (λ _ _ _ h. h.fronts fits) c r xs cs true i child_left child_seen e
-
-        -- what is spelt there are fields in these braces
-        body_same : (y : BodyOf A T) (k l : Toks) → s.rest ≡ l → IsBody a t true y l k → list.Told Field true c xs cs r → (y ≡ made) × (end.rest ≡ k)
-        body_same y k l e (named {s = z} {xs = ys} {cs = ds} {l = m} j) h =
-            let w : group d.Brace x at_front.content u.rest ≡ group d.Brace z m k = sym at_front.is ∙ e in
-            let wx : x ≡ z = cc w in
-            let wm : at_front.content ≡ m = cc w in
-            let wk : u.rest ≡ k = cc w in
-            let same = h.unique ys ds (subst (λ q. list.Are Field true true ys ds q) (sym wm ∙ sym child_rest) j) in
-            (ap (λ q. b.Named (brace q) (ys, ds)) (sym wx) ∙ ap (λ q. b.Named (brace x) (q, ds)) same.0 ∙ ap (λ q. b.Named (brace x) (xs, q)) same.1, end_rest ∙ wk)
-        body_same y k l e (unit {q = q} j) h = absurd (semi_no_brace true q x at_front.content u.rest l k (sym e ∙ at_front.is) j)
-
-        body_left : (y : BodyOf A T) (k l : Toks) → s.rest ≡ l → IsBody a t true y l k → end.left ≡ None
-        body_left y k l e (named {s = z} {xs = ys} {cs = ds} {l = m} j) =
-            let w : group d.Brace x at_front.content u.rest ≡ group d.Brace z m k = sym at_front.is ∙ e in
-            let wm : at_front.content ≡ m = cc w in
-            let none = list.left_none Field ends field_starts keeps (FieldRead a t) (λ _ _ _ h. h.within) (λ _ _ _ h. h.fronts fits) c r xs cs true ys ds m i child_left child_seen (child_rest ∙ wm) j in
-            end_left ∙ at_end r (fields_told none).ends none
-        body_left y k l e (unit {q = q} j) = absurd (semi_no_brace true q x at_front.content u.rest l k (sym e ∙ at_front.is) j)
-
-        body_begun : end.left ≡ None → Begun Body s end made
-        body_begun e =
-            let h = fields_told (no_left r (sym end_left ∙ e)) in
-            record {
-              visible = subst Visible (sym end_rest) seen.2;
-              sound = λ q. subst (λ l. IsBody a t false made l end.rest) (sym at_front.is)
-                  (subst (λ m. IsBody a t false made (group d.Brace x at_front.content u.rest) m) (sym end_rest) (named (subst (λ l. list.Are Field false true xs cs l) child_rest h.sound)));
-              unique = λ y k j q. body_same y k s.rest refl j h;
-              reprint = λ q k g z m. braces_again x xs cs k (h.reprint (plain_fields xs g)) z;
-            }
-
-      pub fields_fronted : Fronted Body s (Ok made) end
-      fields_fronted = λ n v. (body_begun n v, λ y k j q. body_left n v y k s.rest refl j)
-
-    -- the fields that are spelt in the braces were refused
-    pub no_fields : (s c u : Stream) (x : DelimSpan) (e : Refusal) → open_group d.Brace brace_name s ≡ Ok ((x, c), u) → (e.kind ≢ OutOfMemory → Refused (FieldRead a t) (Gives comma) (FieldRefused a t) (Fails comma) e c) → Fronted Body s (Err e) s
-    no_fields s c u x e o i = λ k n v y m j q. none_spelt k n v (opens s x c u v o) y m s.rest refl j
-      where
-        none_spelt : e.kind ≢ OutOfMemory → s.left ≡ None → Visible s.rest → Braces s x c u → (y : BodyOf A T) (m l : Toks) → s.rest ≡ l → IsBody a t true y l m → ⊥
-        none_spelt k n v f y m l g (named {s = z} {xs = ys} {cs = ds} {l = q} j) =
-            let w : group d.Brace x f.content u.rest ≡ group d.Brace z q m = sym f.is ∙ g in
-            let wq : f.content ≡ q = cc w in
-            let rest = ap (λ (z : Stream). z.rest) f.child in
-            list.no_list Field ends field_starts keeps (FieldRead a t) (λ _ _ _ h. h.within) (λ _ _ _ h. h.fronts fits) (FieldRefused a t) (λ _ _ h. h.fronts fits) e c true ys ds q (i k) k
-            (ap (λ (z : Stream). z.left) f.child) (subst Visible (sym rest) (subst Visible f.is v).1) (rest ∙ wq) j
-        none_spelt k n v f y m l g (unit {q = q} j) = absurd (semi_no_brace true q x f.content u.rest l m (sym g ∙ f.is) j)
-
-  -- ---- a body that is no braces
-
-  no_named : (s : Stream) → sees_group d.Brace s.rest ≡ false → (x : DelimSpan) (c k : Toks) → s.rest ≡ group d.Brace x c k → ⊥
-  no_named s f x c k e = let w = sym f ∙ ap (sees_group d.Brace) e ∙ sees_brace x c k in absurd (cc w)
-
-  semi_same : (s u : Stream) (q : Semi) → sees_group d.Brace s.rest ≡ false → Begun Closing s u q → (y : BodyOf A T) (k l : Toks) → s.rest ≡ l → IsBody a t true y l k → (y ≡ b.Unit q) × (u.rest ≡ k)
-  semi_same s u q f h y k l e (named {s = z} {l = m} j) = absurd (no_named s f z m k e)
-  semi_same s u q f h y k l e (unit {q = r} j) = let w = h.unique r k (subst (λ m. IsMark true r m k) (sym e) j) refl in (ap b.Unit w.0, w.1)
-
-  semi_left : (s u : Stream) (q : Semi) → sees_group d.Brace s.rest ≡ false → Fronted Closing s (Ok q) u → s.left ≡ None → Visible s.rest → (y : BodyOf A T) (k l : Toks) → s.rest ≡ l → IsBody a t true y l k → u.left ≡ None
-  semi_left s u q f h n v y k l e (named {s = z} {l = m} j) = absurd (no_named s f z m k e)
-  semi_left s u q f h n v y k l e (unit {q = r} j) = (h n v).1 r k (subst (λ m. IsMark true r m k) (sym e) j) refl
-
-  semi_read : (s : Stream) (q : Semi) (k l : Toks) → s.left ≡ None → s.rest ≡ l → IsMark true q l k → ReadTo Closing q s k → ReadTo Body (b.Unit q) s k
-  unfolding reading.body
-  semi_read s q k l n e i r = (
-    r.0,
-    chosen (sees_group d.Brace s.rest) false _ _ s _ (semi_brace s.rest l e i)
-        (chosen (token.sees_semi s.rest) true _ _ s _ (ap token.sees_semi e ∙ mark_seen true q l k i) (link _ r.1 refl)),
-    r.2,
-    r.3,
-  )
+  row_parts : either.Parts (sees_group Brace) Grouped Other
+  row_parts = record { seen = seen; unseen = unseen }
     where
-      semi_brace : (m l : Toks) → m ≡ l → IsMark true q l k → sees_group d.Brace m ≡ false
-      semi_brace m l e i = ap (sees_group d.Brace) e ∙ mark_brace l i
-        where
-          mark_brace : (l : Toks) → IsMark true q l k → sees_group d.Brace l ≡ false
-          mark_brace l (is_mark {ss = ss} h) = chars_brace true (59 ∷ []) 59 [] ss l k h
+      seen : (x : Braces) (l k : Toks) → Grouped.begins true x l k → sees_group Brace l ≡ true
+      seen x l k (holds {s = s} {c = c} i) = group_seen Brace s c k
 
-  semi_again : (q : Semi) (k : Toks) → FrontAgain Closing q k → FrontAgain Body (b.Unit q) k
-  semi_again q k h = record {
-    spells = unit h.spells;
-    visible = h.visible;
-    stays = refl;
-    same = refl;
-    again = λ s n e. semi_read s q k (printed_on Body (b.Unit q) k) n e h.spells (h.again s n e);
-  }
+      unseen : (x : Semi ⊎ ⊥) (l k : Toks) → Other.begins true x l k → sees_group Brace l ≡ false
+      unseen (inl q) l k i = mark_no_group 59 [] Brace l i.0
+      unseen (inr x) l k i = absurd x
 
-  pub semi_fronted : (s u : Stream) (q : Semi) → sees_group d.Brace s.rest ≡ false → reading.semi s ≡ Ok (q, u) → Fronted Body s (Ok (b.Unit q)) u
-  semi_fronted s u q f e = λ n v. (λ c. begun n v ((h n v).0 c), λ y k i o. semi_left s u q f h n v y k s.rest refl i)
-    where
-      h : Fronted Closing s (Ok q) u
-      h = mark_fronted refl (omega arith) s u (Ok q) e
+  abbrev group_fronts : Fronts Braces
+  group_fronts = groupings Brace brace_name (listings (given (FieldFits a t) Field) (said comma))
 
-      begun : s.left ≡ None → Visible s.rest → Begun Closing s u q → Begun Body s u (b.Unit q)
-      begun n v g = record {
-        visible = g.visible;
-        sound = λ o. unit (g.sound o);
-        unique = λ y k i o. semi_same s u q f g y k s.rest refl i;
-        reprint = λ o k p z w. semi_again q k (g.reprint o k p z w);
-      }
+  abbrev other_fronts : Fronts (Semi ⊎ ⊥)
+  other_fronts = either.eithers token.sees_semi (said semi) (said no_other)
 
-  -- neither braces nor a `;` that is read
-  no_other : (s : Stream) (e : Refusal) → sees_group d.Brace s.rest ≡ false → ((q : Semi) (k : Toks) → IsMark true q s.rest k → ⊥) → (y : BodyOf A T) (k l : Toks) → s.rest ≡ l → IsBody a t true y l k → ⊥
-  no_other s e f g y k l h (named {s = z} {l = m} j) = no_named s f z m k h
-  no_other s e f g y k l h (unit {q = q} j) = g q k (subst (λ m. IsMark true q m k) (sym h) j)
+  abbrev row_fronts : Fronts Choice
+  row_fronts = either.eithers (sees_group Brace) group_fronts other_fronts
 
-  pub no_semi : (s : Stream) (e : Refusal) → sees_group d.Brace s.rest ≡ false → (e.kind ≢ OutOfMemory → reading.semi s ≡ Err e) → Fronted Body s (Err e) s
-  no_semi s e f h = λ k n v y m i o. no_other s e f (λ q r j. mark_refused {n = 24} {k = 1} refl (omega arith) s e h k n v q r j refl) y m s.rest refl i
+  kept : (s u : Stream) (x : Choice) → KeepsFront row_fronts s (Ok x) u → FieldFits a t → Fronted Body s (Ok (to x)) u
+  kept s u x h fits = answered_alike Row Body to from alike s u x (h ((fits, field_joins a t fits), (other_parts, row_parts)))
 
-  pub no_body : (s : Stream) (e : Refusal) → sees_group d.Brace s.rest ≡ false → token.sees_semi s.rest ≡ false → Fronted Body s (Err e) s
-  no_body s e f g = λ k n v y m i o. no_other s e f (λ q r j. not_seen q r j) y m s.rest refl i
-    where
-      not_seen : (q : Semi) (k : Toks) → IsMark true q s.rest k → ⊥
-      not_seen q k j = let w = sym g ∙ mark_seen true q s.rest k j in absurd (cc w)
+  stops : (s u : Stream) (e : Refusal) → KeepsFront row_fronts s (Err e) u → FieldFits a t → Fronted Body s (Err e) u
+  stops s u e h fits = refused_alike Row Body to from alike s e (h ((fits, field_joins a t fits), (other_parts, row_parts)))
 
-  -- braces that are seen are opened
-  pub no_braces : (s : Stream) (e : Refusal) → sees_group d.Brace s.rest ≡ true → (e.kind ≢ OutOfMemory → open_group d.Brace brace_name s ≡ Err e) → Fronted Body s (Err e) s
-  no_braces s e f h = λ k n v y m i o. never_refused s e f (h k)
+  module _ (s : Stream) (w : sees_group Brace s.rest ≡ true) where
+    pub braces_kept : (u : Stream) (x : Braces) → KeepsFront group_fronts s (Ok x) u → FieldFits a t → Fronted Body s (Ok (to (inl x))) u
+    braces_kept u x h = kept s u (inl x) (left_kept (sees_group Brace) group_fronts other_fronts s u x w h)
+
+    pub braces_stopped : (u : Stream) (e : Refusal) → KeepsFront group_fronts s (Err e) u → FieldFits a t → Fronted Body s (Err e) u
+    braces_stopped u e h = stops s u e (left_stopped (sees_group Brace) group_fronts other_fronts s u e w h)
+
+  module _ (s : Stream) (w : sees_group Brace s.rest ≡ false) where
+    pub unit_kept : (u : Stream) (q : Semi) → token.sees_semi s.rest ≡ true → Fronted semi s (Ok q) u → FieldFits a t → Fronted Body s (Ok (b.Unit q)) u
+    unit_kept u q v h = kept s u (inr (inl q)) (right_kept (sees_group Brace) group_fronts other_fronts s u (inl q) w (left_kept token.sees_semi (said semi) (said no_other) s u q v h))
+
+    pub unit_stopped : (u : Stream) (e : Refusal) → token.sees_semi s.rest ≡ true → Fronted semi s (Err e) u → FieldFits a t → Fronted Body s (Err e) u
+    unit_stopped u e v h = stops s u e (right_stopped (sees_group Brace) group_fronts other_fronts s u e w (left_stopped token.sees_semi (said semi) (said no_other) s u e v h))
+
+    pub none_stopped : (u : Stream) (e : Refusal) → token.sees_semi s.rest ≡ false → FieldFits a t → Fronted Body s (Err e) u
+    none_stopped u e v = stops s u e (right_stopped (sees_group Brace) group_fronts other_fronts s u e w (right_stopped token.sees_semi (said semi) (said no_other) s u e v (nothing_kept (expected reading.body_name) s u e)))

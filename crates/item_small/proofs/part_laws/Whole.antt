@@ -9,7 +9,7 @@ use Rattle.syn_path.specs.Whole.{AttributesMeet}
 use Rattle.item_small.specs.item.Promises.{Fits}
 use Rattle.item_small.specs.part.Fronts as fronts
 use Rattle.item_small.specs.part.Fronts.{Item}
-use Rattle.token_core.proofs.fronts_laws.Heads.{heads}
+use Rattle.token_core.specs.laws.Whole.{heads}
 use Rattle.item_small.proofs.part_laws.Fronts.{fits}
 
 module _ {A E : Type 0} (attrs : Attributes A) (exprs : Expressions E) (met : AttributesMeet attrs.reads attrs.spells attrs.normal attrs.shown) (s t : Stream) (r : Result (Item A E) Refusal)

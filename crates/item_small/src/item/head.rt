@@ -22,7 +22,7 @@ impl<'a, I: ToTokens, P: ToTokens, N: ToTokens, W: ToTokens> ToTokens for Head<'
     ghost print = { λ x. printing.head (I.print x.generics.now) (P.print x.trait_path.now) x.ident.now
         (N.print x.arguments.now) (W.print x.where_clause.now) };
 
-    #[tactic(auto, using(token_core::proofs::Puts::puts))]
+    #[tactic(auto, using(token_core::specs::laws::Prints::puts))]
     fn append_tokens(&self, alloc: Global, out: &mut TokenStream) -> Result<(), AllocError> {
         Impl::default().append_tokens(alloc, out)?;
         self.generics.append_tokens(alloc, out)?;
@@ -32,7 +32,7 @@ impl<'a, I: ToTokens, P: ToTokens, N: ToTokens, W: ToTokens> ToTokens for Head<'
 }
 
 /// Appends `for`, a name with its arguments, a where clause and empty braces; refused, what stood before is kept.
-#[tactic(auto, using(token_core::proofs::Puts::puts))]
+#[tactic(auto, using(token_core::specs::laws::Prints::puts))]
 fn append_target<N: ToTokens, W: ToTokens>(
     alloc: Global,
     ident: &Ident,

@@ -10,7 +10,7 @@ use token_core::{ToTokens, TokenStream};
 impl<A: Part, T: Part> ToTokens for FieldOf<A, T> {
     ghost print = { printing.field A.front T.front };
 
-    #[tactic(auto, using(token_core::proofs::Puts::puts))]
+    #[tactic(auto, using(token_core::specs::laws::Prints::puts))]
     fn append_tokens(&self, alloc: Global, out: &mut TokenStream) -> Result<(), AllocError> {
         self.attrs.append(alloc, out)?;
         self.ident.append_tokens(alloc, out)?;
@@ -22,7 +22,7 @@ impl<A: Part, T: Part> ToTokens for FieldOf<A, T> {
 impl<A: Part, T: Part> ToTokens for BodyOf<A, T> {
     ghost print = { printing.body A.front T.front };
 
-    #[tactic(auto, using(token_core::proofs::Puts::puts))]
+    #[tactic(auto, using(token_core::specs::laws::Prints::puts))]
     fn append_tokens(&self, alloc: Global, out: &mut TokenStream) -> Result<(), AllocError> {
         match self {
             BodyOf::Named(brace_token, fields) => {
@@ -38,7 +38,7 @@ impl<A: Part, T: Part> ToTokens for BodyOf<A, T> {
 impl<A: Part, G: Part, W: Part, T: Part> ToTokens for ItemOf<A, G, W, T> {
     ghost print = { printing.item A.front G.front W.front T.front };
 
-    #[tactic(auto, using(token_core::proofs::Puts::puts))]
+    #[tactic(auto, using(token_core::specs::laws::Prints::puts))]
     fn append_tokens(&self, alloc: Global, out: &mut TokenStream) -> Result<(), AllocError> {
         self.attrs.append(alloc, out)?;
         self.struct_token.append_tokens(alloc, out)?;

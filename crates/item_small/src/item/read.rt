@@ -1,84 +1,63 @@
 //! Items are read.
 
-ghost use Rattle.std.specs.Prelude.{◌≡◌, true};
-ghost use Rattle.token_core.specs.declared.tree.Delimiter.TheVariants as delimiter;
-ghost use Rattle.token_core.specs.Fronted.{Fronted};
-ghost use Rattle.token_core.specs.Reads.{Parses, sees_group};
+ghost use Rattle.token_core.specs.Fronted.{Fronted, given};
+ghost use Rattle.token_core.specs.fronts.Alone.{alone};
+ghost use Rattle.token_core.specs.Reads.{Fails, Gives, Parses};
 ghost use Rattle.item_small.specs.item.Promises as promises;
 ghost use Rattle.item_small.specs.item.Promises.{FieldFits, FieldRead, FieldRefused, Fits};
 ghost use Rattle.item_small.specs.item.Reading as reading;
 
 use crate::item::{BodyOf, FieldOf, ItemOf};
-use crate::part::Part;
+use crate::part::{ByPart, Part};
 use std::alloc::Global;
-use token_core::token::{Brace, Colon, Semi, Struct};
-use token_core::{Error, Ident, Parse, ParseStream, Punctuated};
+use token_core::token::{Brace, Colon, Comma, Semi, Struct};
+use token_core::{
+    ByParse, ByTerminated, Delimiter, Error, Ident, Parse, ParseStream, Parser, Token,
+};
 
 /// Reads a field: attributes, a name, `:` and a type. It is refused where one of them is.
-///
-/// What it says of a read has what it promises on the front of a list, so that a list of fields knows it of each.
 impl<A: Part, T: Part> Parse for FieldOf<A, T> {
     ghost reads = { FieldRead A.front T.front };
 
     ghost refuses = { FieldRefused A.front T.front };
 
+    ghost fronts = { given (FieldFits A.front T.front) (alone (promises.field A.front T.front)) };
+
     #[tactic(auto, using(token_core::specs::Reads::no_promise))]
     fn parse(alloc: Global, input: &mut ParseStream<'_>) -> Result<FieldOf<A, T>, Error> {
-        parse_field(alloc, input)
+        let typed = (ByParse::<Colon>::new(), ByPart::<T>::new());
+        let row = (ByPart::<A>::new(), (ByParse::<Ident>::new(), typed));
+        let (attrs, (ident, (colon_token, ty))) = row.parse(alloc, input)?;
+        Ok(FieldOf {
+            attrs,
+            ident,
+            colon_token,
+            ty,
+        })
     }
 }
 
-/// A field.
-fn parse_field<A: Part, T: Part>(
-    alloc: Global,
-    input: &mut ParseStream<'_>,
-) -> Result<FieldOf<A, T>, Error>
-    ensures parses { Parses (reading.field A.front.grammar.reader T.front.grammar.reader) result input.old input.new }
-    ensures fronts { FieldFits A.front T.front → Fronted (promises.field A.front T.front) input.old result input.new }
-{
-    let attrs = A::read(alloc, input)?;
-    let ident = input.parse::<Ident>(alloc)?;
-    let colon_token = input.parse::<Colon>(alloc)?;
-    let ty = T::read(alloc, input)?;
-    Ok(FieldOf {
-        attrs,
-        ident,
-        colon_token,
-        ty,
-    })
-}
+/// Reads fields in braces, which hold nothing else, or `;`. Where neither is there the refusal names both.
+impl<A: Part, T: Part> Parse for BodyOf<A, T> {
+    ghost reads = { Gives (reading.body A.front.grammar.reader T.front.grammar.reader) };
 
-/// Fields in braces, which hold nothing else.
-fn parse_named<A: Part, T: Part>(
-    alloc: Global,
-    input: &mut ParseStream<'_>,
-) -> Result<BodyOf<A, T>, Error>
-    ensures parses { Parses (reading.named A.front.grammar.reader T.front.grammar.reader) result input.old input.new }
-    ensures fronts { sees_group delimiter.Brace input.old.rest ≡ true → FieldFits A.front T.front →
-        Fronted (promises.body A.front T.front) input.old result input.new }
-{
-    let (brace_token, mut content) = input.braced(alloc)?;
-    let fields = Punctuated::parse_terminated(alloc, &mut content)?;
-    input.finish(content);
-    Ok(BodyOf::Named(brace_token, fields))
-}
+    ghost refuses = { Fails (reading.body A.front.grammar.reader T.front.grammar.reader) };
 
-/// Fields in braces, or `;`.
-#[tactic(auto, using(token_core::proofs::Suffixes::follows), unfolding(crate::specs::item::Reading::body))]
-fn parse_body<A: Part, T: Part>(
-    alloc: Global,
-    input: &mut ParseStream<'_>,
-) -> Result<BodyOf<A, T>, Error>
-    ensures parses { Parses (reading.body A.front.grammar.reader T.front.grammar.reader) result input.old input.new }
-    ensures fronts { FieldFits A.front T.front → Fronted (promises.body A.front T.front) input.old result input.new }
-{
-    if input.peek::<Brace>() {
-        return parse_named(alloc, input);
+    ghost fronts = { given (FieldFits A.front T.front) (promises.body A.front T.front) };
+
+    #[tactic(auto, using(token_core::specs::Reads::no_promise, token_core::specs::laws::Follows::follows))]
+    fn parse(alloc: Global, input: &mut ParseStream<'_>) -> Result<BodyOf<A, T>, Error> {
+        if input.peek::<Brace>() {
+            let list = ByTerminated::<FieldOf<A, T>, Comma>::new();
+            let name = Brace::display();
+            let (span, fields) = input.read_group(alloc, Delimiter::Brace, name, list)?;
+            return Ok(BodyOf::Named(Brace { span }, fields));
+        }
+        if !input.peek::<Semi>() {
+            return Err(input.expected(alloc, "curly braces or `;`"));
+        }
+        Ok(BodyOf::Unit(input.parse::<Semi>(alloc)?))
     }
-    if !input.peek::<Semi>() {
-        return Err(input.expected(alloc, "curly braces or `;`"));
-    }
-    Ok(BodyOf::Unit(input.parse::<Semi>(alloc)?))
 }
 
 /// Reads a struct of any parts: attributes, `struct`, a name, generics, a where clause and a body.
@@ -92,12 +71,12 @@ pub fn parse_item<A: Part, G: Part, W: Part, T: Part>(
     ensures fronts { Fits A.front G.front W.front T.front →
         Fronted (promises.item A.front G.front W.front T.front) input.old result input.new }
 {
-    let attrs = A::read(alloc, input)?;
-    let struct_token = input.parse::<Struct>(alloc)?;
-    let ident = input.parse::<Ident>(alloc)?;
-    let generics = G::read(alloc, input)?;
-    let where_clause = W::read(alloc, input)?;
-    let body = parse_body::<A, T>(alloc, input)?;
+    let clause = (ByPart::<W>::new(), ByParse::<BodyOf<A, T>>::new());
+    let named = (ByParse::<Ident>::new(), (ByPart::<G>::new(), clause));
+    let row = (ByPart::<A>::new(), (ByParse::<Struct>::new(), named));
+    let (attrs, (struct_token, (ident, (generics, (where_clause, body))))) = row.parse(
+        alloc, input,
+    )?;
     Ok(ItemOf {
         attrs,
         struct_token,

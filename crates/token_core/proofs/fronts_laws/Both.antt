@@ -21,23 +21,6 @@ none_at (Some x) b h e = cc
 pub none_before : (s t : Stream) → Follows s t → t.left ≡ None → s.left ≡ None
 none_before s t h e = none_at s.left t.left h.kept e
 
--- what both reads answered
-pub record Both {A B : Type 0} (p : Reader A) (q : Reader B) (s u : Stream) (x : A × B) : Type 0 where
-  pub between : Stream
-  pub first : p s ≡ Ok (x.0, between)
-  pub second : q between ≡ Ok (x.1, u)
-
-pub took_both : {A B : Type 0} (p : Reader A) (q : Reader B) (s u : Stream) (x : A × B) → read_both p q s ≡ Ok (x, u) → Both p q s u x
-took_both {A} {B} p q s u x e =
-    let c = chain (p s) _ x u e in
-    let d = chain (q c.rest) _ x u c.goes in
-    let g = same_pair (c.value, d.value) x d.rest u d.goes in
-    record {
-      between = c.rest;
-      first = c.was ∙ ap (λ (z : A × B). Ok (z.0, c.rest)) g.0;
-      second = d.was ∙ ap (λ (z : A × B). Ok (z.1, d.rest)) g.0 ∙ ap (λ (z : Stream). Ok (x.1, z)) g.1;
-    }
-
 module _ {A B : Type 0} (F : Fronting A) (G : Fronting B) where
   abbrev BothBegin : Bool → A × B → Toks → Toks → Type 0
   BothBegin = both.BothBegin F G

@@ -18,7 +18,8 @@ use Rattle.token_core.proofs.Rebuilds.{stream-trees, visible-tree}
 use Rattle.token_core.proofs.Steps.{link}
 use Rattle.token_core.proofs.Took.{at, took_all}
 use Rattle.token_core.proofs.Turns.{same_pair}
-use Rattle.token_core.proofs.fronts_laws.Heads.{at_end, no_left}
+use Rattle.token_core.specs.laws.Seen.{same_itself}
+use Rattle.token_core.specs.laws.Whole.{at_end, no_left}
 
 delimiter_is : (x y : Delimiter) → same_delimiter x y ≡ true → x ≡ y
 delimiter_is d.Parenthesis d.Parenthesis e = refl
@@ -37,12 +38,6 @@ delimiter_is d.None d.Parenthesis e = cc
 delimiter_is d.None d.Brace e = cc
 delimiter_is d.None d.Bracket e = cc
 delimiter_is d.None d.None e = refl
-
-same_itself : (x : Delimiter) → same_delimiter x x ≡ true
-same_itself d.Parenthesis = refl
-same_itself d.Brace = refl
-same_itself d.Bracket = refl
-same_itself d.None = refl
 
 none_first : (f g : Option Span) → f ≡ None → first_of f g ≡ g
 none_first None g e = refl
@@ -225,9 +220,3 @@ module _ (y : Delimiter) (name : Bytes) where
     group_absent unsaid s t e h = tt
     group_absent (said F) s t e h = group_unopened F s t e h
     group_absent (given P F) s t e h = λ p. group_unopened F s t e h
-
-  -- ---- what the read is
-
-  module _ {A : Type 0} (q : Reader A) where
-    pub group_read : (s c u r : Stream) (x : DelimSpan) (a : A) → open_group y name s ≡ Ok ((x, c), u) → q c ≡ Ok (a, r) → in_group y name q s ≡ Ok ((x, a), finished r u)
-    group_read s c u r x a o h = link (λ g. λ s. closing g.0 s (q g.1)) o (ap (closing x u) h)

@@ -1,13 +1,12 @@
 use Rattle.std.proofs.Common.{Ok, inl, inr, sym, subst}
 use Rattle.token_core.specs.Fronted.{KeepsFront}
 use Rattle.token_core.specs.fronts.Groups.{groupings}
-use Rattle.token_core.proofs.Terminations.{refused_so}
 use Rattle.token_core.proofs.fronts_laws.Groups.{group_absent, group_kept, group_stopped}
-use Rattle.token_core.proofs.fronts_laws.Refused.{kept_err, refusal_is}
+use Rattle.token_core.specs.laws.Steps.{kept_err, parsed_err}
 use Rattle.token_core.proofs.parse_stream.ParseStream.read_group.Goals as goal
 
 pub returns-in_err-span-clause-reads : goal.returns-in_err-span-clause-reads
-returns-in_err-span-clause-reads g c = let e = c.in_err-span.field-0.0 in refused_so _ _ _ _ e (refusal_is _ e c.from_residual.ensures) (λ k. inl (c.in_err-span.ensures.parses.0 k))
+returns-in_err-span-clause-reads g c = let e = c.in_err-span.field-0.0 in parsed_err _ _ _ _ e c.from_residual.ensures (λ k. inl (c.in_err-span.ensures.parses.0 k))
 
 pub returns-in_err-span-clause-fronts : goal.returns-in_err-span-clause-fronts
 returns-in_err-span-clause-fronts g c =
@@ -17,7 +16,7 @@ returns-in_err-span-clause-fronts g c =
 pub returns-in_err-value-clause-reads : goal.returns-in_err-value-clause-reads
 returns-in_err-value-clause-reads g c =
     let e = c.in_err-value.field-0.0 in
-    refused_so _ _ _ _ e (refusal_is _ e c.from_residual-in_err-value.ensures) (λ k. inr (record { span = _; child = _; after = _; opens = c.in_ok-span.ensures.parses.0; was = c.in_err-value.ensures.reads k }))
+    parsed_err _ _ _ _ e c.from_residual-in_err-value.ensures (λ k. inr (record { span = _; child = _; after = _; opens = c.in_ok-span.ensures.parses.0; was = c.in_err-value.ensures.reads k }))
 
 pub returns-in_err-value-clause-fronts : goal.returns-in_err-value-clause-fronts
 returns-in_err-value-clause-fronts g c =

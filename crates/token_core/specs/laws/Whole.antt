@@ -3,12 +3,37 @@ use Rattle.std.proofs.Common.{◌≡◌, true, false, Option, Some, None, Result
 use Rattle.token_core.specs.declared.span.Span.{Span}
 use Rattle.token_core.specs.Fronted.{Begun, FrontAgain, Fronting, Fronted}
 use Rattle.token_core.specs.Headline.{Answered, Grammar, Headline, Heads, Reprinted, ended, end_of, printed}
-use Rattle.token_core.specs.Reads.{Outcome, first_of, kept, leaves}
+use Rattle.token_core.specs.Reads.{Outcome, first_of, is_done, kept, leaves}
+use Rattle.token_core.specs.Rebuilt.{Visible}
 use Rattle.token_core.specs.Refusal.{Refusal}
 use Rattle.token_core.specs.Spans.{none}
-use Rattle.token_core.specs.Stream.{Stream, started}
-use Rattle.token_core.specs.Toks.{done}
-use Rattle.token_core.proofs.Took.{leaves_none, took_all}
+use Rattle.token_core.specs.Stream.{Scope, Stream, started}
+use Rattle.token_core.specs.Toks.{Toks, done, word, mark, lit, group, enter, leave}
+
+abbrev at : Toks → Option Span → Span → Scope → Stream
+at l f e sc = record { rest = l; left = f; last = e; scope = sc }
+
+ended_at : (l : Toks) (f : Option Span) (e : Span) (sc : Scope) → Visible l → leaves (at l f e sc) ≡ None → l ≡ done
+unfolding is_done
+ended_at done f e sc v h = refl
+ended_at (word j k) None e sc v h = cc
+ended_at (word j k) (Some a) e sc v h = cc
+ended_at (mark p k) None e sc v h = cc
+ended_at (mark p k) (Some a) e sc v h = cc
+ended_at (lit x k) None e sc v h = cc
+ended_at (lit x k) (Some a) e sc v h = cc
+ended_at (group d p c k) None e sc v h = cc
+ended_at (group d p c k) (Some a) e sc v h = cc
+ended_at (enter p k) f e sc v h = absurd v
+ended_at (leave k) f e sc v h = absurd v
+
+pub took_all : (t : Stream) → Visible t.rest → leaves t ≡ None → t.rest ≡ done
+took_all t v h = ended_at t.rest t.left t.last t.scope v h
+
+-- where nothing was left over before, nothing is at the end
+pub leaves_none : (f : Option Span) (e : Span) (sc : Scope) → f ≡ None → leaves (at done f e sc) ≡ None
+unfolding is_done
+leaves_none f e sc h = ap (λ z. first_of z None) h
 
 first_none : (f g : Option Span) → first_of f g ≡ None → f ≡ None
 first_none None g e = refl

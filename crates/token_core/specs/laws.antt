@@ -1,0 +1,12 @@
+pub mod Follows
+pub mod Prints
+pub mod Steps
+pub mod Fronteds
+pub mod Whole
+pub mod Seen
+pub mod Apart
+pub mod Takes
+pub mod Turns
+pub mod Same
+pub mod Either
+pub mod Alone
