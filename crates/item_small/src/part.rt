@@ -1,5 +1,6 @@
 //! What an item is made of: each part is read on the front of a list, and says what it spells there.
 
+ghost use Rattle.std.specs.Prelude.{◌≡◌};
 ghost use Rattle.token_core.specs.Fronted.{Fronting, Fronted, said};
 ghost use Rattle.token_core.specs.Prints.{Appends};
 ghost use Rattle.token_core.specs.Reads.{Fails, Follows, Gives, Reads};

@@ -90,9 +90,9 @@ module _ {A T : Type 0} (a : Fronting A) (t : Fronting T) where
 
   reads : (s u : Stream) (x : Parts) → Row.grammar.reader s ≡ Ok (x, u) → Field.grammar.reader s ≡ Ok (to x, u)
   reads s u x e =
-      let f = took_both _ _ s u x e in
-      let g = took_both _ _ f.between u x.1 f.ends in
-      let h = took_both _ _ g.between u x.1.1 g.ends in
+      let f = took_both a.grammar.reader (both.both grammars.ident (both.both colon t)).grammar.reader s u x e in
+      let g = took_both grammars.ident.grammar.reader (both.both colon t).grammar.reader f.between u x.1 f.ends in
+      let h = took_both colon.grammar.reader t.grammar.reader g.between u x.1.1 g.ends in
       field_read s u x (record { between = f.between; begins = f.begins; ends = record { between = g.between; begins = g.begins; ends = h } })
 
   -- ---- what is promised

@@ -43,8 +43,20 @@ module _ {A G W T : Type 0} (a : Fronting A) (g : Fronting G) (w : Fronting W) (
   Parts = A × (Struct × (Ident × (G × (W × BodyOf A T))))
 
   -- an item, as its parts one after the other
+  abbrev Ended : Fronting (W × BodyOf A T)
+  Ended = both.both w Body
+
+  abbrev AfterName : Fronting (G × (W × BodyOf A T))
+  AfterName = both.both g Ended
+
+  abbrev AfterWord : Fronting (Ident × (G × (W × BodyOf A T)))
+  AfterWord = both.both grammars.ident AfterName
+
+  abbrev Named : Fronting (Struct × (Ident × (G × (W × BodyOf A T))))
+  Named = both.both struct_word AfterWord
+
   abbrev Row : Fronting Parts
-  Row = both.both a (both.both struct_word (both.both grammars.ident (both.both g (both.both w Body))))
+  Row = both.both a Named
 
   abbrev pub row_fronts : Fronts Parts
   row_fronts = both.pairs (said a) (both.pairs (said struct_word) (both.pairs (said grammars.ident) (both.pairs (said g) (both.pairs (said w) (given (FieldFits a t) Body)))))
@@ -86,11 +98,11 @@ module _ {A G W T : Type 0} (a : Fronting A) (g : Fronting G) (w : Fronting W) (
 
   reads : (s u : Stream) (x : Parts) → Row.grammar.reader s ≡ Ok (x, u) → Item.grammar.reader s ≡ Ok (to x, u)
   reads s u x e =
-      let f1 = took_both _ _ s u x e in
-      let f2 = took_both _ _ f1.between u x.1 f1.ends in
-      let f3 = took_both _ _ f2.between u x.1.1 f2.ends in
-      let f4 = took_both _ _ f3.between u x.1.1.1 f3.ends in
-      let f5 = took_both _ _ f4.between u x.1.1.1.1 f4.ends in
+      let f1 = took_both a.grammar.reader Named.grammar.reader s u x e in
+      let f2 = took_both struct_word.grammar.reader AfterWord.grammar.reader f1.between u x.1 f1.ends in
+      let f3 = took_both grammars.ident.grammar.reader AfterName.grammar.reader f2.between u x.1.1 f2.ends in
+      let f4 = took_both g.grammar.reader Ended.grammar.reader f3.between u x.1.1.1 f3.ends in
+      let f5 = took_both w.grammar.reader Body.grammar.reader f4.between u x.1.1.1.1 f4.ends in
       item_read s u x (record {
         between = f1.between;
         begins = f1.begins;
@@ -121,10 +133,10 @@ module _ {A G W T : Type 0} (a : Fronting A) (g : Fronting G) (w : Fronting W) (
     body_after : both.Fit w Body
     body_after clear x l k i o = fits.body l (body_begins a t clear x l k i)
 
-    clause_after : both.Fit g (both.both w Body)
+    clause_after : both.Fit g Ended
     clause_after clear x l k i o = fits.clause clear x.0 l i.0 i.1 (body_begins a t clear x.1 i.0 k i.2)
 
-    word_after : both.Fit a (both.both struct_word (both.both grammars.ident (both.both g (both.both w Body))))
+    word_after : both.Fit a Named
     word_after clear x l k i o = fits.word l (word_seen x.0 l i.0 i.1)
 
   pub item_kept : (s u : Stream) (x : Parts) → KeepsFront row_fronts s (Ok x) u → Fits a g w t → Fronted Item s (Ok (to x)) u

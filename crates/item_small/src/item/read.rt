@@ -11,9 +11,7 @@ use crate::item::{BodyOf, FieldOf, ItemOf};
 use crate::part::{ByPart, Part};
 use std::alloc::Global;
 use token_core::token::{Brace, Colon, Comma, Semi, Struct};
-use token_core::{
-    ByParse, ByTerminated, Delimiter, Error, Ident, Parse, ParseStream, Parser, Token,
-};
+use token_core::{ByParse, ByTerminated, Delimiter, Error, Ident, Parse, ParseStream, Parser};
 
 /// Reads a field: attributes, a name, `:` and a type. It is refused where one of them is.
 impl<A: Part, T: Part> Parse for FieldOf<A, T> {
@@ -49,8 +47,7 @@ impl<A: Part, T: Part> Parse for BodyOf<A, T> {
     fn parse(alloc: Global, input: &mut ParseStream<'_>) -> Result<BodyOf<A, T>, Error> {
         if input.peek::<Brace>() {
             let list = ByTerminated::<FieldOf<A, T>, Comma>::new();
-            let name = Brace::display();
-            let (span, fields) = input.read_group(alloc, Delimiter::Brace, name, list)?;
+            let (span, fields) = input.read_group(alloc, Delimiter::Brace, "curly braces", list)?;
             return Ok(BodyOf::Named(Brace { span }, fields));
         }
         if !input.peek::<Semi>() {
