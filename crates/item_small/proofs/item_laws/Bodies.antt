@@ -1,12 +1,11 @@
 -- A body: how it is read, and what is promised of it by what is promised of its fields, or of its `;`.
-use Rattle.std.proofs.Common.{◌≡◌, ◌⊎◌, Bool, true, false, if◌then◌else◌, List, [], ◌∷◌, map, inl, inr, Ok, Err, refl, sym, ◌∙◌, ap, subst}
+use Rattle.std.proofs.Common.{◌≡◌, ◌⊎◌, Bool, true, false, List, [], ◌∷◌, map, inl, inr, Ok, Err, refl, sym, ap, subst}
 use Rattle.token_core.specs.declared.span.DelimSpan.{DelimSpan}
 use Rattle.token_core.specs.declared.tree.Delimiter.TheVariants.{Brace}
 use Rattle.token_core.specs.Fronted.{Fronting, Fronted, Fronts, KeepsFront, said, given}
 use Rattle.token_core.specs.Grammars as grammars
 use Rattle.token_core.specs.Groups.{brace, brace_name}
-use Rattle.token_core.specs.Loops.{Many}
-use Rattle.token_core.specs.Reads.{Outcome, Reader, Fails, Gives, and_then, expected, in_group, pure, sees_group}
+use Rattle.token_core.specs.Reads.{Fails, Gives, expected, sees_group}
 use Rattle.token_core.specs.Refusal.{Refusal}
 use Rattle.token_core.specs.Stream.{Stream}
 use Rattle.token_core.specs.Terminated.{Answers, Refused}

@@ -1,5 +1,5 @@
 -- A field: how it is read, and what is promised of it by what is promised of its attributes and its type.
-use Rattle.std.proofs.Common.{◌≡◌, ◌||◌, Bool, true, false, [], Result, Ok, Err, refl}
+use Rattle.std.proofs.Common.{◌≡◌, ◌||◌, Bool, true, false, [], Ok, Err, refl}
 use Rattle.token_core.specs.declared.tree.Ident.{Ident}
 use Rattle.token_core.specs.Fronted.{Fronting, Fronted, Fronts, KeepsFront, said}
 use Rattle.token_core.specs.Grammars as grammars
