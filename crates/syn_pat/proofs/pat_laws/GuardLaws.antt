@@ -97,17 +97,21 @@ module _ {X : Type 0} (sub : Subtree X)
         | inl y ↦ let f = chain (token.if_word c.rest) _ x t y.1 in
             let w = named_sound {n = 11} c.rest f.rest f.value k.seen f.was in
             let with : X → Pat X = λ z. v.Guard (guard_of [] c.value f.value (e.Other z)) in
-            let m = mapped (sub.reads Guard f.rest) with x t f.goes in
-            (seen Guard f.rest t m.value w.seen m.was, λ o. subst (λ z. Begins z s.rest t.rest) m.is (a_guard (λ a.
-            let q = law.sound f.rest t m.value w.seen m.was n a in
-            let i = w.spelt q.0 in
-            record { before_if = c.rest.rest; before_guard = f.rest.rest; pattern = k.spelt (w.left q.0) (word_stops f.value c.rest.rest f.rest.rest i); word = i; guard = q.1 })))
-        | inr y ↦ let q = same_pair c.value x c.rest t y.1 in
-            (subst (λ (z : Stream). Visible z.rest) q.1 k.seen, λ o.
-            let a = and_parts (follows_pat LeadingVert t.rest) _ o in
-            let stops = ends_stop c.rest.rest (pat_ends LeadingVert c.rest.rest (ap (λ (z : Stream). follows_pat LeadingVert z.rest) q.1 ∙ a.0)).ends in
-            subst (λ z. Begins z s.rest t.rest) q.0
-            (subst (λ (z : Stream). Begins c.value s.rest z.rest) q.1 (no_guard (k.spelt (ap (λ (z : Stream). z.left) q.1 ∙ n) stops) y.0)))
+            let m = mapped (sub.reads Guard f.rest) with x t f.goes in (
+              seen Guard f.rest t m.value w.seen m.was,
+              λ o. subst (λ z. Begins z s.rest t.rest) m.is (a_guard (λ a.
+                  let q = law.sound f.rest t m.value w.seen m.was n a in
+                  let i = w.spelt q.0 in
+                  record { before_if = c.rest.rest; before_guard = f.rest.rest; pattern = k.spelt (w.left q.0) (word_stops f.value c.rest.rest f.rest.rest i); word = i; guard = q.1 })),
+            )
+        | inr y ↦ let q = same_pair c.value x c.rest t y.1 in (
+          subst (λ (z : Stream). Visible z.rest) q.1 k.seen,
+          λ o.
+              let a = and_parts (follows_pat LeadingVert t.rest) _ o in
+              let stops = ends_stop c.rest.rest (pat_ends LeadingVert c.rest.rest (ap (λ (z : Stream). follows_pat LeadingVert z.rest) q.1 ∙ a.0)).ends in
+              subst (λ z. Begins z s.rest t.rest) q.0
+              (subst (λ (z : Stream). Begins c.value s.rest z.rest) q.1 (no_guard (k.spelt (ap (λ (z : Stream). z.left) q.1 ∙ n) stops) y.0)),
+        )
       ]
 
   -- ---- complete
@@ -162,13 +166,16 @@ module _ {X : Type 0} (sub : Subtree X)
       let end = row (sub.prints Guard g) k in
       let a = word_front w m j h in
       subst (λ z. BeginsGuarded sub.spells F true z (row (px (with_guard y w g)) k) k) (sym (normal_is y w g))
-      (subst (λ z. BeginsGuarded sub.spells F true (with_guard (nx y) w (sub.normal Guard g)) z k) (sym (row_is y w g k)) (a_guard (f, record {
-        before_if = row (p.word w) end;
-        before_guard = end;
-        pattern = (i.0, (pattern_again i.0 y l m i.1).spelt (row (p.word w) end) (again.word_stops w _ end (a.spelt end)));
-        word = a.spelt end;
-        guard = law.spells g j r k q d f;
-      })))
+      (subst (λ z. BeginsGuarded sub.spells F true (with_guard (nx y) w (sub.normal Guard g)) z k) (sym (row_is y w g k)) (a_guard (
+        f,
+        record {
+          before_if = row (p.word w) end;
+          before_guard = end;
+          pattern = (i.0, (pattern_again i.0 y l m i.1).spelt (row (p.word w) end) (again.word_stops w _ end (a.spelt end)));
+          word = a.spelt end;
+          guard = law.spells g j r k q d f;
+        },
+      )))
 
   visible_again : (x : Pat X) (k : Toks) → PlainGuarded sub k x → Visible k → Visible (row (px x) k)
   visible_again x k (plain_alone {l = l} {r = r} u i d) n = (pattern_again i.0 x l r i.1).visible k u n
