@@ -84,6 +84,12 @@ closed g s (Err e) = Err e
 unfoldable pub invisible : Reader TokenTree
 invisible = (λ s. groups.opened groups.group_token (groups.open_invisible s)) >>= (λ g. λ s. closed g.0 s (rest g.1))
 
+-- the tree at the front
+unfoldable pub tree : Reader TokenTree
+tree = do
+  apart ← peek groups.sees_invisible
+  if apart then invisible else token
+
 -- ---- in its place
 
 abbrev pub expr_name : Bytes

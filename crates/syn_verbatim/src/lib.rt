@@ -2,4 +2,4 @@
 #![tactic(auto)]
 
 pub mod expr;
-mod rest;
+pub mod rest;

@@ -97,6 +97,20 @@ fn take_token(alloc: Global, input: &mut ParseStream<'_>) -> Result<TokenTree, E
     }
 }
 
+/// The tree at the front: a group with all that it holds, an invisible one too, or another token, which stands in no further
+/// invisible group. A visible group is one tree.
+pub fn take_tree(alloc: Global, input: &mut ParseStream<'_>) -> Result<TokenTree, Error>
+    requires { is_done input.old.rest ≡ false }
+    ensures reads { Reads (reading.tree input.old) result input.new }
+    ensures within { Follows input.old input.new }
+{
+    if input.peek::<GroupToken>() {
+        take_invisible(alloc, input)
+    } else {
+        take_token(alloc, input)
+    }
+}
+
 /// The invisible group at the front, with all that it holds.
 #[cycle(rest)]
 #[tactic(auto, using(token_core::proofs::Suffixes::follows), unfolding(crate::specs::Reading::invisible))]

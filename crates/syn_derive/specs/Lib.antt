@@ -1,0 +1,7 @@
+pub mod data
+pub mod discriminant
+pub mod input
+pub mod inputs
+pub mod members
+pub mod part
+pub mod vis

@@ -1,0 +1,5 @@
+pub mod Printing
+pub mod Promises
+pub mod Reading
+pub mod Spelling
+pub mod Trees

@@ -1,0 +1,32 @@
+-- What the reader of a visibility promises. A visibility is its own normal form.
+use Rattle.std.specs.Prelude.{◌≡◌, Bool, false, not}
+use Rattle.token_core.specs.Fronted.{Fronting}
+use Rattle.token_core.specs.Tokens as token
+use Rattle.token_core.specs.Toks.{Toks, done}
+use Rattle.syn_derive.specs.declared.vis.Visibility.{Visibility}
+use Rattle.syn_derive.specs.declared.vis.Visibility.TheVariants as v
+use Rattle.syn_derive.specs.vis.Printing as printing
+use Rattle.syn_derive.specs.vis.Reading as reading
+use Rattle.syn_derive.specs.vis.Reading.{restricts}
+use Rattle.syn_derive.specs.vis.Spelling.{IsVisibility}
+
+-- no parentheses that restrict are printed behind `pub`
+abbrev pub visibility_plain : Visibility → Toks → Type 0
+visibility_plain (v.Public p) k = restricts k ≡ false
+visibility_plain (v.Restricted x) k = Unit {0}
+visibility_plain v.Inherited k = Unit {0}
+
+-- what may follow: no `pub`
+abbrev pub visibility : Fronting Visibility
+visibility = record {
+  grammar = record {
+    spells = λ clear x l. IsVisibility clear x l done;
+    normal = λ x. x;
+    print = printing.visibility;
+    plain = λ x. Unit {0};
+    reader = reading.visibility;
+  };
+  begins = λ clear. IsVisibility clear;
+  follows = λ k. not (token.sees_pub k);
+  plain = visibility_plain;
+}
