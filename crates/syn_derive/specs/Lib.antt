@@ -1,5 +1,6 @@
 pub mod data
 pub mod discriminant
+pub mod fronts
 pub mod input
 pub mod inputs
 pub mod members

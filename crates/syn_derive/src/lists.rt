@@ -1,17 +1,18 @@
 //! Lists of what parsers read, and what may be there, as parsers.
 
-ghost use Rattle.std.specs.Prelude.{◌≡◌};
+ghost use Rattle.std.specs.Prelude.{◌≡◌, []};
 ghost use Rattle.token_core.specs.Fronted.{KeepsFront, said};
 ghost use Rattle.token_core.specs.Reads.{Fails, Follows, Gives, OptionReads, OptionRefuses, Parsed};
 ghost use Rattle.token_core.specs.Terminated as terminated;
 ghost use Rattle.token_core.specs.fronts.Lists as lists;
 ghost use Rattle.token_core.specs.fronts.Options as options;
 ghost use Rattle.syn_path.specs.path.Grammars as paths;
+ghost use Rattle.syn_path.specs.path.Paths.{nothing};
 ghost use Rattle.syn_path.specs.path.Reading as reading;
 
 use std::alloc::Global;
 use std::marker::PhantomData;
-use syn_path::path::{Arguments, ModPath, NoArguments};
+use syn_path::path::ModPath;
 use token_core::{Error, ErrorKind, Parse, ParseStream, Parser, Punctuated, Token};
 
 /// Reads values by a parser, which is copied for each, and marks in turn up to the end of the stream; a mark may be last. A value
@@ -136,11 +137,11 @@ impl Parser for ByModPath {
 
     ghost can_parse = { λ _. Unit {0} };
 
-    ghost reads = { λ _. Gives (reading.mod_style NoArguments.Arguments.absent) };
+    ghost reads = { λ _. Gives (reading.mod_style nothing) };
 
-    ghost refuses = { λ _. Fails (reading.mod_style NoArguments.Arguments.absent) };
+    ghost refuses = { λ _. Fails (reading.mod_style nothing) };
 
-    ghost fronts = { λ _. said (paths.mod_style_front NoArguments.Arguments.absent NoArguments.Arguments.shown) };
+    ghost fronts = { λ _. said (paths.mod_style_front nothing (λ a. [])) };
 
     #[tactic(auto, using(token_core::specs::Reads::no_promise))]
     fn parse(self, alloc: Global, input: &mut ParseStream<'_>) -> Result<ModPath, Error> {

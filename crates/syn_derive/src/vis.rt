@@ -3,7 +3,7 @@
 ghost use Rattle.std.specs.Prelude.{◌≡◌};
 ghost use Rattle.token_core.specs.Fronted.{said};
 ghost use Rattle.token_core.specs.Headline.{Headline};
-ghost use Rattle.token_core.specs.Reads.{Fails, Follows, Gives, Parses, Reads, peek};
+ghost use Rattle.token_core.specs.Reads.{Fails, Gives, Reads, peek};
 ghost use Rattle.syn_derive.specs.vis.Printing as printing;
 ghost use Rattle.syn_derive.specs.vis.Promises as promises;
 ghost use Rattle.syn_derive.specs.vis.Reading as reading;
@@ -12,7 +12,10 @@ use crate::lists::{ByModPath, ByOption};
 use std::alloc::{AllocError, Global};
 use syn_path::path::{ModPath, print_mod_path};
 use token_core::token::{Crate, In, Paren, Pub, SelfValue, Super};
-use token_core::{Delimiter, Error, Ident, Parse, ParseStream, Parser, ToTokens, Token, TokenStream};
+use token_core::{
+    ByParse, DelimSpan, Delimiter, Error, Ident, Parse, ParseStream, Parser, ToTokens, Token,
+    TokenStream,
+};
 
 /// Who may name an item, or a field.
 #[derive(Drop)]
@@ -61,23 +64,35 @@ fn is_restricted(alloc: Global, input: &ParseStream<'_>) -> Result<bool, Error>
     is_lone_word(alloc, &content)
 }
 
-/// Reads what stands in the parentheses that restrict: perhaps `in`, and a path of mod style.
-fn parse_restricted(
-    alloc: Global,
-    pub_token: Pub,
-    input: &mut ParseStream<'_>,
-) -> Result<VisRestricted, Error>
-    ensures parses { Parses (reading.restricted pub_token) result input.old input.new }
-{
-    let scope = (ByOption::<In>::new(), ByModPath {});
-    let name = Paren::display();
-    let (span, (in_token, path)) = input.read_group(alloc, Delimiter::Parenthesis, name, scope)?;
-    Ok(VisRestricted {
-        pub_token,
-        paren_token: Paren { span },
-        in_token,
-        path,
-    })
+/// What restricts behind `pub`, as a parser: perhaps `in`, and a path of mod style, in parentheses; nothing, where none restrict.
+#[derive(Drop)]
+pub struct ByScope {}
+
+impl Parser for ByScope {
+    type Output = Option<(DelimSpan, (Option<In>, ModPath))>;
+
+    ghost can_parse = { λ _. Unit {0} };
+
+    ghost reads = { λ _. Gives reading.restriction };
+
+    ghost refuses = { λ _. Fails reading.restriction };
+
+    ghost fronts = { λ _. promises.restriction_fronts };
+
+    #[tactic(auto, using(token_core::specs::Reads::no_promise, token_core::specs::laws::Follows::follows))]
+    fn parse(
+        self,
+        alloc: Global,
+        input: &mut ParseStream<'_>,
+    ) -> Result<Option<(DelimSpan, (Option<In>, ModPath))>, Error> {
+        if !is_restricted(alloc, input)? {
+            return Ok(None);
+        }
+        let scope = (ByOption::<In>::new(), ByModPath {});
+        let name = Paren::display();
+        let held = input.read_group(alloc, Delimiter::Parenthesis, name, scope)?;
+        Ok(Some(held))
+    }
 }
 
 /// Reads a visibility, which may be none.
@@ -101,13 +116,17 @@ impl Parse for Visibility {
         if !input.peek::<Pub>() {
             return Ok(Visibility::Inherited);
         }
-        let pub_token = input.parse::<Pub>(alloc)?;
-        if !is_restricted(alloc, input)? {
-            return Ok(Visibility::Public(pub_token));
-        }
-        Ok(Visibility::Restricted(parse_restricted(
-            alloc, pub_token, input,
-        )?))
+        let row = (ByParse::<Pub>::new(), ByScope {});
+        let (pub_token, held) = row.parse(alloc, input)?;
+        Ok(match held {
+            None => Visibility::Public(pub_token),
+            Some((span, (in_token, path))) => Visibility::Restricted(VisRestricted {
+                pub_token,
+                paren_token: Paren { span },
+                in_token,
+                path,
+            }),
+        })
     }
 }
 

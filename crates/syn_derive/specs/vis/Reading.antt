@@ -13,8 +13,7 @@ use Rattle.syn_path.specs.path.Paths.{ModPath, nothing}
 use Rattle.syn_path.specs.path.Reading as paths
 use Rattle.syn_derive.specs.declared.vis.Visibility.{Visibility}
 use Rattle.syn_derive.specs.declared.vis.Visibility.TheVariants as v
-use Rattle.syn_derive.specs.declared.vis.VisRestricted.{VisRestricted}
-use Rattle.syn_derive.specs.vis.Trees.{restricted_of}
+use Rattle.syn_derive.specs.vis.Trees.{Held, visible_by}
 
 -- `crate`, `self` or `super`
 abbrev pub sees_scope : Toks → Bool
@@ -43,17 +42,17 @@ scope = do
   q ← paths.mod_style nothing
   pure (i, q)
 
-unfoldable pub restricted : token.Pub → Reader VisRestricted
-restricted p = do
-  x ← in_group Parenthesis paren_name scope
-  pure (restricted_of p x.0 x.1.0 x.1.1)
+-- in parentheses that restrict; nothing elsewhere
+abbrev pub restriction : Reader (Option Held)
+restriction = optional restricts (in_group Parenthesis paren_name scope)
 
-abbrev pub behind_pub : token.Pub → Reader Visibility
-behind_pub p = do
-  narrow ← peek restricts
-  if narrow then v.Restricted <$> restricted p else pure (v.Public p)
+abbrev pub behind_pub : Reader Visibility
+behind_pub = do
+  p ← token.pub_word
+  x ← restriction
+  pure (visible_by p x)
 
 unfoldable pub visibility : Reader Visibility
 visibility = do
   there ← peek token.sees_pub
-  if there then (token.pub_word >>= behind_pub) else pure v.Inherited
+  if there then behind_pub else pure v.Inherited

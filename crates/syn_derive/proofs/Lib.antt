@@ -1,0 +1,2 @@
+pub mod fronts_laws
+pub mod vis_laws

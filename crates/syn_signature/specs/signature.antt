@@ -1,0 +1,4 @@
+pub mod Printing
+pub mod Reading
+pub mod Spelling
+pub mod Trees
