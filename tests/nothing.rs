@@ -29,6 +29,10 @@ impl Subtree for Nothing {
 
     ghost complete = { λ p s x i. absurd i };
 
+    ghost seen = { λ p s t x v e. cc };
+
+    ghost guarded = { tt };
+
     ghost reprint = { λ p x l i. absurd i };
 
     ghost apart = { λ x l i. absurd i };

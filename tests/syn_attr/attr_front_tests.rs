@@ -3,7 +3,7 @@
 use crate::left::{leaves, read_and_left};
 use crate::verbatim_tests::{printed, says};
 use std::alloc::{AllocError, Global};
-use syn_mid::{Attribute, MetaList};
+use syn_mid::{Attribute, Meta, MetaList, MetaNameValue};
 use syn_sample::sample::Sample;
 use token_core::{Error, Items, ParseStream};
 
@@ -29,6 +29,33 @@ fn reads_a_list_up_to_its_brackets(rt: HostRuntime) {
         ("a(x), b(y)", "a (x) | , b (y)"),
     ] {
         leaves::<MetaList>(&rt, alloc, text, wanted);
+    }
+}
+
+/// Before the end: a value is all that is left.
+#[test]
+fn reads_metas_up_to_the_end(rt: HostRuntime) {
+    let alloc = rt.alloc();
+    for (text, wanted) in [
+        ("a", "a |"),
+        ("unsafe", "unsafe |"),
+        ("a(b)", "a (b) |"),
+        ("a = 1", "a = 1 |"),
+        ("a::b = c + 1", "a :: b = c + 1 |"),
+    ] {
+        leaves::<Meta<Sample>>(&rt, alloc, text, wanted);
+    }
+    for (text, wanted) in [("a = 1", "a = 1 |"), ("a::b = c", "a :: b = c |")] {
+        leaves::<MetaNameValue<Sample>>(&rt, alloc, text, wanted);
+    }
+}
+
+/// Before a comma a literal is no value that an attribute reads itself: the subtree does.
+#[test]
+fn leaves_what_the_subtree_leaves(rt: HostRuntime) {
+    let alloc = rt.alloc();
+    for (text, wanted) in [("a = b, c", "a = b | , c"), ("a, b", "a | , b")] {
+        leaves::<Meta<Sample>>(&rt, alloc, text, wanted);
     }
 }
 

@@ -21,6 +21,10 @@ fn leading(alloc: Global, input: &mut ParseStream<'_>) -> Result<Pattern, Error>
     Pattern::parse_multi_with_leading_vert(alloc, input)
 }
 
+fn guarded(alloc: Global, input: &mut ParseStream<'_>) -> Result<Pattern, Error> {
+    Pattern::parse_multi_with_leading_vert_and_guard(alloc, input)
+}
+
 fn typed(alloc: Global, input: &mut ParseStream<'_>) -> Result<PatType<Sample>, Error> {
     input.parse::<PatType<Sample>>(alloc)
 }
@@ -89,5 +93,38 @@ fn reads_a_pattern_with_its_type(rt: HostRuntime) {
         ("a: T | b", "a : T | | b"),
     ] {
         says(&rt, alloc, read_and_left(alloc, text, typed), wanted);
+    }
+}
+
+/// As the arms of a `match`: a guard ends where the subtree's read does, and without one the pattern does.
+#[test]
+fn reads_an_arm_up_to_its_arrow(rt: HostRuntime) {
+    let alloc = rt.alloc();
+    for (text, wanted) in [
+        ("a => x", "a | => x"),
+        ("| a | b => x, c => y", "| a | b | => x , c => y"),
+        ("a, b", "a | , b"),
+        ("a = x", "a | = x"),
+        ("a if b => x", "a if b | => x"),
+        ("Some(a) if a + 1 => x", "Some (a) if a + 1 | => x"),
+        ("| a | b if (c + 1) => x", "| a | b if (c + 1) | => x"),
+        ("a if b, c", "a if b | , c"),
+        ("a if b::c => x", "a if b :: c | => x"),
+        ("a if b", "a if b |"),
+    ] {
+        says(&rt, alloc, read_and_left(alloc, text, guarded), wanted);
+    }
+}
+
+/// A `+` and a `::` go on with a guard.
+#[test]
+fn refuses_a_guard_that_goes_on(rt: HostRuntime) {
+    let alloc = rt.alloc();
+    for (text, wanted) in [
+        ("a if b + => x", "expected identifier 9-10 9-11"),
+        ("a if b:: => x", "expected identifier 9-10 9-11"),
+        ("a if => x", "expected identifier 5-6 5-7"),
+    ] {
+        says(&rt, alloc, read_and_left(alloc, text, guarded), wanted);
     }
 }

@@ -9,6 +9,7 @@ pub mod Parameters
 pub mod Params
 pub mod Printing
 pub mod Promises
+pub mod Rests
 pub mod Shapes
 pub mod Spelt
 pub mod Views

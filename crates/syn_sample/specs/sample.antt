@@ -9,5 +9,6 @@ pub mod Joins
 pub mod Reads
 pub mod Sums
 pub mod Laws
+pub mod Guards
 pub mod Bare
 pub mod Aside

@@ -9,6 +9,7 @@ ghost use Rattle.syn_sample.specs.sample.Parts as spec;
 ghost use Rattle.syn_sample.specs.sample.Reading as reading;
 ghost use Rattle.syn_sample.specs.sample.Printing as printing;
 ghost use Rattle.syn_sample.specs.sample.Spelling as spelling;
+ghost use Rattle.syn_sample.specs.sample.Guards as guards;
 ghost use Rattle.syn_sample.specs.sample.Laws as laws;
 ghost use Rattle.syn_sample.specs.sample.Bare as bare;
 ghost use Rattle.syn_sample.specs.sample.Aside as aside;
@@ -304,11 +305,17 @@ impl Subtree for Sample {
 
     ghost bare = { bare.sample };
 
+    ghost guards = { guards.guards };
+
     ghost steady = { laws.steady };
 
     ghost sound = { laws.sound };
 
     ghost complete = { laws.complete };
+
+    ghost seen = { laws.seen };
+
+    ghost guarded = { guards.guarded };
 
     ghost reprint = { laws.reprint };
 

@@ -87,6 +87,25 @@ unfolding ended
 complete p s x i =
     (ended s, is_outcome p s ∙ ap (λ b. outcome b s) i.1 ∙ ap (λ z. Ok (verbatim_of z, ended s)) (sym i.0), record { ends = used_up s.rest; left = refl })
 
+-- ---- what is left of a list without invisible groups
+
+after-visible : (l : Toks) → Visible l → after zero l ≡ done
+after-visible done v = refl
+after-visible (word i k) v = after-visible k v
+after-visible (mark p k) v = after-visible k v
+after-visible (lit x k) v = after-visible k v
+after-visible (group b s c k) v = after-visible k v.2
+after-visible (enter s k) v = absurd v
+after-visible (leave k) v = absurd v
+
+pub seen : (p : Place) (s t : Stream) (x : VerbatimExpr) → Visible s.rest → at_place p s ≡ Ok (x, t) → Visible t.rest
+unfolding ended
+seen p s t x v e = by_test (fits p s.rest) (sym (is_outcome p s) ∙ e)
+  where
+    by_test : (b : Bool) → outcome b s ≡ Ok (x, t) → Visible t.rest
+    by_test true e = let g = same_pair (verbatim_of (stream_of_trees (held s.rest))) x (ended s) t e in subst (λ (z : Stream). Visible z.rest) g.1 (subst Visible (sym (after-visible s.rest v)) tt)
+    by_test false e = cc
+
 -- ---- reprint
 
 fits_again : (p : Place) (l : Toks) → fits p l ≡ true → fits p (row (held l) done) ≡ true

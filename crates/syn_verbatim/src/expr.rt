@@ -95,6 +95,10 @@ impl Subtree for VerbatimExpr {
 
     ghost complete = { laws.complete };
 
+    ghost seen = { laws.seen };
+
+    ghost guarded = { tt };
+
     ghost reprint = { laws.reprint };
 
     ghost apart = { laws.apart };

@@ -186,6 +186,9 @@ pub type Pub = Word<40>;
 /// `struct`
 pub type Struct = Word<43>;
 
+/// `type`
+pub type Type = Word<46>;
+
 /// `union`, which is an `Ident` too.
 pub type Union = Word<53>;
 

@@ -52,11 +52,17 @@ impl<X: Subtree> Subtree for Scoped<X> {
 
     ghost bare = { X.bare };
 
+    ghost guards = { X.guards };
+
     ghost steady = { X.steady };
 
     ghost sound = { X.sound };
 
     ghost complete = { X.complete };
+
+    ghost seen = { X.seen };
+
+    ghost guarded = { X.guarded };
 
     ghost reprint = { X.reprint };
 

@@ -26,10 +26,13 @@ impl<X: Subtree> Parse for Meta<X> {
 
     ghost promise = { Headline (grammars.meta X.Subtree) };
 
+    ghost fronts = { said (grammars.meta_front X.Subtree) };
+
     fn parse(alloc: Global, input: &mut ParseStream<'_>) -> Result<Meta<X>, Error>
         ensures reads { Reads (reading.meta X.reads input.old) result input.new }
         ensures within { Follows input.old input.new }
         ensures promise { Heads (grammars.meta X.Subtree) input.old result input.new }
+        ensures fronts { Fronted (grammars.meta_front X.Subtree) input.old result input.new }
     {
         parse_meta(alloc, input)
     }
@@ -159,10 +162,13 @@ impl<X: Subtree> Parse for MetaNameValue<X> {
 
     ghost promise = { Headline (grammars.name_value X.Subtree) };
 
+    ghost fronts = { said (grammars.name_value_front X.Subtree) };
+
     fn parse(alloc: Global, input: &mut ParseStream<'_>) -> Result<MetaNameValue<X>, Error>
         ensures reads { Reads (reading.name_value X.reads input.old) result input.new }
         ensures within { Follows input.old input.new }
         ensures promise { Heads (grammars.name_value X.Subtree) input.old result input.new }
+        ensures fronts { Fronted (grammars.name_value_front X.Subtree) input.old result input.new }
     {
         parse_meta_name_value(alloc, input)
     }

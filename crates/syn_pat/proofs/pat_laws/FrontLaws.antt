@@ -44,7 +44,7 @@ use Rattle.syn_pat.proofs.pat_laws.sound.Within.{SuppliedTold}
 
 -- ---- what may follow
 
-pat_ends : (place : PatPlace) (k : Toks) → follows_pat place k ≡ true → EndsIn place k
+pub pat_ends : (place : PatPlace) (k : Toks) → follows_pat place k ≡ true → EndsIn place k
 pat_ends place k o = let a = and_parts (ends_range k) _ o in record { ends = follow.ends k a.0; no_vert = λ h. not_both (allows_cases place) (sees_vert k) a.1 h }
 
 -- ---- a pattern with a type, of some height, whose type ends in some manner
@@ -67,18 +67,18 @@ module _ {X : Type 0} (sub : Subtree X)
     (complete : (p : Place) (s : Stream) (x : X) → sub.spells p x s.rest → (t : Stream) × (sub.reads p s ≡ Ok (x, t)) × UsesUp s t)
     (reprint : (p : Place) (x : X) (l : Toks) → sub.spells p x l → Reprints (sub.spells p) (sub.normal p) (sub.prints p) x l)
     (apart : (x : X) (l : Toks) → sub.spells Value x l → IsApart l) where
-  again_supplied : SuppliedAgain sub.spells sub.normal sub.prints
+  pub again_supplied : SuppliedAgain sub.spells sub.normal sub.prints
   again_supplied = laws.supplied sub steady sound complete reprint (given.meets sub steady sound complete reprint apart) (given.types sub steady sound complete reprint apart)
 
-  met_supplied : follow.SuppliedMeets sub.reads sub.spells
+  pub met_supplied : follow.SuppliedMeets sub.reads sub.spells
   met_supplied = met.supplied sub.reads sub.spells (given.meets sub steady sound complete reprint apart) complete
 
-  told_supplied : SuppliedTold sub.reads sub.spells
+  pub told_supplied : SuppliedTold sub.reads sub.spells
   told_supplied = told.supplied sub.reads sub.spells sub.normal sub.prints steady sound complete reprint
 
   -- ---- patterns
 
-  printed_again : (n : ℕ) (place : PatPlace) (x : Pat X) (l r : Toks) → IsPat sub.spells (pats_to sub.spells n) plainly place x l r → AgainFront (Stopped (IsPat sub.spells (pats_to sub.spells n) clearly place)) (normal.pat sub.normal) (printing.pat sub.prints (types_shown sub.prints)) x l r
+  pub printed_again : (n : ℕ) (place : PatPlace) (x : Pat X) (l r : Toks) → IsPat sub.spells (pats_to sub.spells n) plainly place x l r → AgainFront (Stopped (IsPat sub.spells (pats_to sub.spells n) clearly place)) (normal.pat sub.normal) (printing.pat sub.prints (types_shown sub.prints)) x l r
   printed_again = front_again sub.spells sub.normal sub.prints again_supplied
 
   pub pat_fronts : (place : PatPlace) → FrontLaws (promises.pat_front sub place)

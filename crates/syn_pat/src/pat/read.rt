@@ -102,6 +102,7 @@ impl<X: Subtree> Pat<X> {
     ) -> Result<Pat<X>, Error>
         ensures parses { Parses (knot.guarded X.reads (type_names X.reads)) result input.old input.new }
         ensures promise { Heads (promises.guarded X.Subtree) input.old result input.new }
+        ensures fronts { Fronted (promises.guarded_front X.Subtree) input.old result input.new }
     {
         parse_guarded::<X, PathArguments<X>, QSelf<X>, Type<X>>(alloc, input)
     }

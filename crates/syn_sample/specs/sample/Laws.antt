@@ -264,6 +264,15 @@ complete q s y i =
     let g = back (at_place q s) (at_place q (unveiled s)) y (at done s.left r.last s.scope) r.reads (alike q s) in
     (g.end, g.was, record { ends = shown_over g.end g.like.rest; left = g.like.left })
 
+-- ---- what is left of a list without invisible groups
+
+pub seen : (q : Place) (s t : Stream) (y : Sample) → Visible s.rest → at_place q s ≡ Ok (y, t) → Visible t.rest
+unfolding sum block
+seen ArrayLen s t y h e = let m = mapped (atoms s) Sum y t e in summed_seen s t m.value h m.was
+seen Value s t y h e = let w = value_was s t y e in summed_seen s t w.held h w.was
+seen Guard s t y h e = let m = mapped (atoms s) Sum y t e in summed_seen s t m.value h m.was
+seen Block s t y h e = let m = mapped (statements s) Statements y t e in statements_seen s t m.value h m.was
+
 -- ---- reprint
 
 place_again : (q : Place) (y : Sample) (l : Toks) → IsAt q y l → IsAt q y (row (printing.sample y) done)

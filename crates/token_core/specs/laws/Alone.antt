@@ -1,5 +1,5 @@
 -- Where what is plain by itself is plain on fronts, of this is promised what is promised of that.
-use Rattle.std.proofs.Common.{◌≡◌, true, None, Result, Ok, Err}
+use Rattle.std.proofs.Common.{Result, Ok, Err}
 use Rattle.token_core.specs.Fronted.{Begun, FrontAgain, Fronting, Fronted}
 use Rattle.token_core.specs.Refusal.{Refusal}
 use Rattle.token_core.specs.Stream.{Stream}

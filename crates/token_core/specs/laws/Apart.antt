@@ -4,11 +4,10 @@ use Rattle.std.proofs.Common.{◌≡◌, ℕ, Bool, true, false, ◌==◌, if◌
 use Rattle.token_core.specs.declared.mark.Spans.{Spans}
 use Rattle.token_core.specs.declared.span.Span.{Span}
 use Rattle.token_core.specs.declared.tree.Delimiter.{Delimiter}
-use Rattle.token_core.specs.declared.tree.Ident.{Ident}
+use Rattle.token_core.specs.declared.tree.Delimiter.TheVariants as d
 use Rattle.token_core.specs.declared.tree.Punct.{Punct}
-use Rattle.token_core.specs.declared.lifetime.Lifetime.{Lifetime}
 use Rattle.token_core.specs.Lifetimes.{next_word, sees_lifetime, with_ident}
-use Rattle.token_core.specs.Reads.{is_done, is_joint, past_mark, put_first, sees_group, sees_mark, sees_word, three}
+use Rattle.token_core.specs.Reads.{is_done, is_joint, past_mark, put_first, same_delimiter, sees_group, sees_mark, sees_word, three}
 use Rattle.token_core.specs.Toks.{Bytes, Toks, done, word, mark, lit, group, enter, leave}
 
 -- where a word is seen, no mark is
@@ -99,6 +98,43 @@ group_no_mark x c cs (lit y k) h = refl
 group_no_mark x c cs (group e s y k) h = refl
 group_no_mark x c cs (enter s k) h = group_no_mark x c cs k h
 group_no_mark x c cs (leave k) h = group_no_mark x c cs k h
+
+pub group_no_word : (x : Delimiter) (test : Bytes → Bool) (l : Toks) → sees_group x l ≡ true → sees_word test l ≡ false
+unfolding sees_word sees_group
+group_no_word x test done h = refl
+group_no_word x test (word i k) h = cc h
+group_no_word x test (mark p k) h = refl
+group_no_word x test (lit y k) h = refl
+group_no_word x test (group e s y k) h = refl
+group_no_word x test (enter s k) h = group_no_word x test k h
+group_no_word x test (leave k) h = group_no_word x test k h
+
+pub group_no_lifetime : (x : Delimiter) (l : Toks) → sees_group x l ≡ true → sees_lifetime l ≡ false
+unfolding sees_lifetime sees_group
+group_no_lifetime x done h = refl
+group_no_lifetime x (word i k) h = refl
+group_no_lifetime x (mark p k) h = cc h
+group_no_lifetime x (lit y k) h = refl
+group_no_lifetime x (group e s y k) h = refl
+group_no_lifetime x (enter s k) h = group_no_lifetime x k h
+group_no_lifetime x (leave k) h = group_no_lifetime x k h
+
+-- braces are no other group
+not_brace : (x e : Delimiter) → same_delimiter d.Brace x ≡ false → same_delimiter e d.Brace ≡ true → same_delimiter e x ≡ false
+not_brace x d.Brace n h = n
+not_brace x d.Parenthesis n h = cc h
+not_brace x d.Bracket n h = cc h
+not_brace x d.None n h = cc h
+
+pub brace_no_other : (x : Delimiter) (l : Toks) → same_delimiter d.Brace x ≡ false → sees_group d.Brace l ≡ true → sees_group x l ≡ false
+unfolding sees_group
+brace_no_other x done n h = refl
+brace_no_other x (word i k) n h = refl
+brace_no_other x (mark p k) n h = refl
+brace_no_other x (lit y k) n h = refl
+brace_no_other x (group e s y k) n h = not_brace x e n h
+brace_no_other x (enter s k) n h = brace_no_other x k n h
+brace_no_other x (leave k) n h = brace_no_other x k n h
 
 -- ---- nothing
 

@@ -1,8 +1,6 @@
 -- One of two: what is promised of it by what is promised of the one that is read.
-use Rattle.std.specs.Prelude.{◌≢◌}
-use Rattle.std.proofs.Common.{◌≡◌, ◌⊎◌, inl, inr, ◌&&◌, Bool, true, false, None, Result, Ok, Err, refl, sym, ◌∙◌, ap, subst}
-use Rattle.token_core.specs.Fronted.{Begun, FrontAgain, Fronting, Fronted, Fronts, unsaid, said, given, KeepsFront, ReadTo, printed_on}
-use Rattle.token_core.specs.Rebuilt.{Visible}
+use Rattle.std.proofs.Common.{◌≡◌, ◌⊎◌, inl, inr, ◌&&◌, Bool, true, false, None, Ok, Err, refl, ◌∙◌, ap}
+use Rattle.token_core.specs.Fronted.{FrontAgain, Fronting, Fronted, Fronts, unsaid, said, given, KeepsFront, printed_on}
 use Rattle.token_core.specs.Refusal.{Refusal}
 use Rattle.token_core.specs.Stream.{Stream}
 use Rattle.token_core.specs.Toks.{Toks}

@@ -1,12 +1,14 @@
 -- What is promised of a tree by its parts is promised of the tree.
-use Rattle.std.proofs.Common.{◌≡◌, Bool, true, false, None, Ok, Err, sym, ◌∙◌, ap, subst}
-use Rattle.token_core.specs.Fronted.{Begun, FrontAgain, Fronting, Fronted, ReadTo, printed_on}
+use Rattle.std.proofs.Common.{◌≡◌, true, false, None, Ok, Err, refl, sym, ◌∙◌, ap, subst}
+use Rattle.token_core.specs.Fronted.{Begun, FrontAgain, Fronting, Fronted, Fronts, unsaid, said, given, KeepsFront, ReadTo, printed_on}
+use Rattle.token_core.specs.Reads.{pure}
 use Rattle.token_core.specs.Rebuilt.{Visible}
 use Rattle.token_core.specs.Refusal.{Refusal}
 use Rattle.token_core.specs.Stream.{Stream}
 use Rattle.token_core.specs.Toks.{Toks}
 use Rattle.token_core.specs.Trees.{row}
-use Rattle.token_core.specs.fronts.Same.{Alike}
+use Rattle.token_core.specs.fronts.Same.{Alike, made_of, makings}
+use Rattle.token_core.specs.laws.Steps.{link, stopped}
 
 module _ {A B : Type 0} (F : Fronting A) (G : Fronting B) (to : A → B) (from : B → A) where
   module _ (same : Alike F G to from) where
@@ -42,3 +44,36 @@ module _ {A B : Type 0} (F : Fronting A) (G : Fronting B) (to : A → B) (from :
 
     pub answered_alike : (s t : Stream) (a : A) → Fronted F s (Ok a) t → Fronted G s (Ok (to a)) t
     answered_alike s t a h = λ n v. (λ c. begun_alike s t a ((h n v).0 c), λ b k i o. (h n v).1 (from b) k (same.parted true b s.rest k i) (same.follows k o))
+
+-- ---- a tree that is made of its parts, one for one
+
+module _ {A B : Type 0} (to : A → B) (from : B → A) where
+  -- it is read where they are
+  pub made_gives : (F : Fronting A) (s t : Stream) (a : A) → F.grammar.reader s ≡ Ok (a, t) → (made_of to from F).grammar.reader s ≡ Ok (to a, t)
+  made_gives F s t a e = link (λ x. pure (to x)) e refl
+
+  pub made_fails : (F : Fronting A) (s : Stream) (e : Refusal) → F.grammar.reader s ≡ Err e → (made_of to from F).grammar.reader s ≡ Err e
+  made_fails F s e h = stopped (λ x. pure (to x)) e h
+
+  module _ (back : (b : B) → to (from b) ≡ b) (forth : (a : A) → from (to a) ≡ a) where
+    made_alike : (F : Fronting A) → Alike F (made_of to from F) to from
+    made_alike F = record {
+      back = back;
+      parted = λ clear b l k i. i;
+      made = λ clear a l k i. subst (λ z. F.begins clear z l k) (sym (forth a)) i;
+      follows = λ k o. o;
+      normal = λ a. ap (λ z. to (F.grammar.normal z)) (forth a);
+      print = λ a. ap F.grammar.print (forth a);
+      plain = λ a k p. subst (λ z. F.plain z k) (forth a) p;
+      reads = λ s t a e. made_gives F s t a e;
+    }
+
+    pub made_kept : (f : Fronts A) (s t : Stream) (a : A) → KeepsFront f s (Ok a) t → KeepsFront (makings to from f) s (Ok (to a)) t
+    made_kept unsaid s t a h = tt
+    made_kept (said F) s t a h = answered_alike F (made_of to from F) to from (made_alike F) s t a h
+    made_kept (given P F) s t a h = λ p. answered_alike F (made_of to from F) to from (made_alike F) s t a (h p)
+
+    pub made_stopped : (f : Fronts A) (s t : Stream) (e : Refusal) → KeepsFront f s (Err e) t → KeepsFront (makings to from f) s (Err e) t
+    made_stopped unsaid s t e h = tt
+    made_stopped (said F) s t e h = refused_alike F (made_of to from F) to from (made_alike F) s e h
+    made_stopped (given P F) s t e h = λ p. refused_alike F (made_of to from F) to from (made_alike F) s e (h p)

@@ -75,6 +75,14 @@ pub next_refused : {A C : Type 0} (p : Reader A) (f : A → Reader C) (N : Strea
 next_refused p f N e g s (inl h) = stopped f e h
 next_refused p f N e g s (inr h) = link f h.begins (g h.value h.between h.refused)
 
+-- The same, where the second is read as its relations say.
+module _ {A B : Type 0} (p : Reader A) (q : Reader B) where
+  pub both_gives : (V : Stream → B → Stream → Type 0) → ((s t : Stream) (b : B) → V s b t → q s ≡ Ok (b, t)) → (s t : Stream) (x : A × B) → ReadBoth (Gives p) V s x t → read_both p q s ≡ Ok (x, t)
+  both_gives V gives s t x h = link _ h.begins (link _ (gives h.between t x.1 h.ends) refl)
+
+  pub both_fails : (N : Stream → Refusal → Type 0) → ((s : Stream) (e : Refusal) → N s e → q s ≡ Err e) → (s : Stream) (e : Refusal) → RefusedBoth (Gives p) (Fails p) N s e → read_both p q s ≡ Err e
+  both_fails N fails s e h = next_refused p _ N e (λ a t k. stopped _ e (fails t e k)) s h
+
 -- ---- a group
 
 module _ {A : Type 0} (d : Delimiter) (name : Bytes) (q : Reader A) where

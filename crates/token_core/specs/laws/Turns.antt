@@ -1,6 +1,6 @@
 -- Values and marks in turn, up to the end of a stream: where each read is a function and marks take tokens, the reference reader of the list is what is read.
-use Rattle.std.specs.Prelude.{◌≢◌, not}
-use Rattle.std.proofs.Common.{◌≡◌, ℕ, zero, suc, ◌<◌, Bool, true, false, List, ◌∷◌, Ok, Err, refl, ◌∙◌, ap, arith}
+use Rattle.std.specs.Prelude.{not}
+use Rattle.std.proofs.Common.{◌≡◌, ℕ, zero, suc, ◌<◌, Bool, true, false, List, Ok, Err, refl, ap, arith}
 use Rattle.token_core.specs.Loops.{Many, listed, listed_from, size, terminated}
 use Rattle.token_core.specs.Reads.{Fails, Follows, Gives, Reader, is_done}
 use Rattle.token_core.specs.Refusal.{Refusal}

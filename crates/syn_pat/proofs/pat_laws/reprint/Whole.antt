@@ -70,10 +70,10 @@ module _ {X : Type 0} (spells : Place → X → Toks → Type 0) (nx : Place →
   abbrev guarded : Guarded → Pat X
   guarded z = v.Guard (guard_of [] z.0 z.1.0 (e.Other z.1.1))
 
-  normal_guard : (x : X) → normal.guard nx (e.Other x) ≡ e.Other (nx Guard x)
+  pub normal_guard : (x : X) → normal.guard nx (e.Other x) ≡ e.Other (nx Guard x)
   normal_guard x = ap (λ y. attr.place_layer nx Guard y (attr.value nx (e.Other x))) (e.outs-Other x)
 
-  print_guard : (x : X) → printing.guard px (e.Other x) ≡ px Guard x
+  pub print_guard : (x : X) → printing.guard px (e.Other x) ≡ px Guard x
   print_guard x = ap (λ y. shown.place_layer px Guard y (shown.value px (e.Other x))) (e.outs-Other x)
 
   pub guarded_whole : Whole (SpellsGuarded spells) (normal.pat nx) (printing.pat px (types_shown px))
