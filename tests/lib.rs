@@ -27,6 +27,8 @@ mod derive_head;
 #[cfg(test)]
 mod derive_head_tests;
 #[cfg(test)]
+mod derive_tests;
+#[cfg(test)]
 mod doc_tests;
 #[cfg(test)]
 mod expr_tests;
@@ -91,6 +93,8 @@ mod signature_index;
 #[cfg(test)]
 mod signature_index_tests;
 #[cfg(test)]
+mod signature_tests;
+#[cfg(test)]
 mod stream_tests;
 #[cfg(test)]
 mod string_tests;
@@ -110,5 +114,7 @@ mod type_front_tests;
 mod type_tests;
 #[cfg(test)]
 mod verbatim_tests;
+#[cfg(test)]
+mod vis_tests;
 #[cfg(test)]
 mod walk_tests;

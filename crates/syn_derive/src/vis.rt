@@ -7,6 +7,7 @@ ghost use Rattle.token_core.specs.Reads.{Fails, Gives, Reads, peek};
 ghost use Rattle.syn_derive.specs.vis.Printing as printing;
 ghost use Rattle.syn_derive.specs.vis.Promises as promises;
 ghost use Rattle.syn_derive.specs.vis.Reading as reading;
+ghost use Rattle.syn_derive.specs.vis.Trees as trees;
 
 use crate::lists::{ByModPath, ByOption};
 use std::alloc::{AllocError, Global};
@@ -85,13 +86,29 @@ impl Parser for ByScope {
         alloc: Global,
         input: &mut ParseStream<'_>,
     ) -> Result<Option<(DelimSpan, (Option<In>, ModPath))>, Error> {
-        if !is_restricted(alloc, input)? {
+        let restricted = is_restricted(alloc, input)?;
+        if !restricted {
             return Ok(None);
         }
         let scope = (ByOption::<In>::new(), ByModPath {});
         let name = Paren::display();
         let held = input.read_group(alloc, Delimiter::Parenthesis, name, scope)?;
         Ok(Some(held))
+    }
+}
+
+/// A visibility by `pub`, and what restricts behind it, if anything does.
+fn visible(pub_token: Pub, held: Option<(DelimSpan, (Option<In>, ModPath))>) -> Visibility
+    ensures { result ≡ trees.visible_by pub_token held }
+{
+    match held {
+        None => Visibility::Public(pub_token),
+        Some((span, (in_token, path))) => Visibility::Restricted(VisRestricted {
+            pub_token,
+            paren_token: Paren { span },
+            in_token,
+            path,
+        }),
     }
 }
 
@@ -118,15 +135,7 @@ impl Parse for Visibility {
         }
         let row = (ByParse::<Pub>::new(), ByScope {});
         let (pub_token, held) = row.parse(alloc, input)?;
-        Ok(match held {
-            None => Visibility::Public(pub_token),
-            Some((span, (in_token, path))) => Visibility::Restricted(VisRestricted {
-                pub_token,
-                paren_token: Paren { span },
-                in_token,
-                path,
-            }),
-        })
+        Ok(visible(pub_token, held))
     }
 }
 

@@ -16,14 +16,14 @@ use Rattle.token_core.specs.Spellings.{IsWord, is_word}
 use Rattle.token_core.specs.Stream.{Stream}
 use Rattle.token_core.specs.Tokens as token
 use Rattle.token_core.specs.Toks.{Bytes, Toks, done, group}
-use Rattle.token_core.specs.fronts.Both.{both}
+use Rattle.token_core.specs.fronts.Both.{Fit, both}
 use Rattle.token_core.specs.fronts.Groups.{IsGrouped, grouped, holds}
 use Rattle.token_core.specs.fronts.Options.{IsOptional, absent, option, present}
 use Rattle.token_core.specs.laws.Seen.{word_seen}
 use Rattle.token_core.specs.laws.Steps.{branch, chosen, link, mapped, same_pair, took_both}
 use Rattle.syn_path.specs.path.Grammars as paths
 use Rattle.syn_path.specs.path.Paths.{ModPath, ModSegment, Sep, nothing}
-use Rattle.syn_path.specs.path.Spelling.{IsModPath, a_bare_path, no_leading, leading, last_segment, more_segments}
+use Rattle.syn_path.specs.path.Spelling.{IsModPath, is_mod_word, a_bare_path, no_leading, leading, last_segment, more_segments}
 use Rattle.syn_derive.specs.declared.vis.Visibility.{Visibility}
 use Rattle.syn_derive.specs.declared.vis.Visibility.TheVariants as v
 use Rattle.syn_derive.specs.fronts.Maybe.{SeenAgain, maybe}
@@ -58,7 +58,7 @@ abbrev pub Parts : Type 0
 Parts = Option (token.Pub × Option Held)
 
 abbrev pub Row : Fronting Parts
-Row = option token.sees_pub Behind
+Row = maybe token.sees_pub Behind
 
 abbrev pub to : Parts → Visibility
 to None = v.Inherited
@@ -74,13 +74,9 @@ or_second : (a b : Bool) → b ≡ true → a || b ≡ true
 or_second true b h = refl
 or_second false b h = h
 
-or_left : (a b : Bool) → b ≡ false → a || b ≡ true → a ≡ true
-or_left true b h g = refl
-or_left false b h g = absurd (opposite b g h)
-  where
-    opposite : (b : Bool) → b ≡ true → b ≡ false → ⊥
-    opposite true h g = absurd (cc g)
-    opposite false h g = absurd (cc h)
+opposite : (b : Bool) → b ≡ true → b ≡ false → ⊥
+opposite true h g = absurd (cc g)
+opposite false h g = absurd (cc h)
 
 or_other : (a b : Bool) → a ≡ false → a || b ≡ true → b ≡ true
 or_other true b h g = cc h
@@ -109,6 +105,23 @@ no_in (Some p) h = by_test (bytes_eq p.0.text (text_of 3)) (bytes_eq p.0.text (t
 scope_no_in : (c : Toks) → lone_scope c ≡ true → token.sees_in c ≡ false
 unfolding lone_scope sees_word
 scope_no_in c h = no_in (as_word (front c)) (first (sees_scope c) _ h)
+
+-- a word of a path is no `in`
+mod_no_in : (t : Bytes) (b : Bool) → bytes_eq t (text_of 31) ≡ b → is_mod_word t ≡ true → b ≡ false
+mod_no_in t false e h = refl
+mod_no_in t true e h =
+    let n : is_mod_word (text_of 31) ≡ false = refl in
+    absurd (opposite (is_mod_word (text_of 31)) (ap is_mod_word (sym ((bytes_eq-Decides t (text_of 31)).0 e)) ∙ h) n)
+
+path_no_in : (clear : Bool) (q : ModPath) (l k : Toks) → IsModPath clear nothing q l k → token.sees_in l ≡ false
+unfolding sees_word
+path_no_in clear q l k (a_bare_path no_leading (last_segment {i = i} h)) = mod_no_in i.text (bytes_eq i.text (text_of 31)) refl h
+path_no_in clear q l k (a_bare_path no_leading (more_segments {i = i} h g f)) = mod_no_in i.text (bytes_eq i.text (text_of 31)) refl h
+path_no_in clear q l k (a_bare_path (leading h) i) = refl
+
+-- `in` may stand before a path, or not
+pub in_fits : Fit (option token.sees_in In) Path
+in_fits clear q l k i o = ap not (path_no_in clear q l k i)
 
 -- ---- a path of one such word
 
@@ -201,6 +214,9 @@ made clear (Some x) l k (present i h) = by_option clear x.0 x.1 l i.0 k i.1 i.2
     by_option clear p o l m k w (absent h) = public w h
     by_option clear p o l m k w (present {a = a} i h) = made_held clear p a l m k w i h
 
+pub pub_again : SeenAgain token.sees_pub Behind
+pub_again a l r m k i w j = word_seen a.0 m j.0 j.1
+
 pub seen_again : SeenAgain restricts Group
 seen_again a l r m k i w j = by_groups a l r m k i w j
   where
@@ -217,9 +233,10 @@ seen_again a l r m k i w j = by_groups a l r m k i w j
 
 -- ---- its print, and what may follow
 
-follows : (k : Toks) → not (token.sees_pub k) ≡ true → Row.follows k ≡ true
+-- the end of the parentheses may follow a path
+follows : (k : Toks) → Row.follows k ≡ true
 unfolding sees_mark
-follows k h = h
+follows k = refl
 
 normal_held : (x : Option Held) → x ≡ option_map Group.grammar.normal x
 normal_held None = refl
@@ -242,7 +259,7 @@ print (Some x) = by_option x.0 x.1
     by_option p (Some x) = refl
 
 plain : (x : Parts) (k : Toks) → promises.visibility.plain (to x) k → Row.plain x k
-plain None k h = tt
+plain None k h = h
 plain (Some x) k h = by_option x.0 x.1 k h
   where
     inside : (o : Option token.In) → (option token.sees_in In).plain o done
@@ -254,4 +271,4 @@ plain (Some x) k h = by_option x.0 x.1 k h
     by_option p (Some x) k h = (tt, (inside x.1.0, tt))
 
 pub visible_made : Made Row promises.visibility to
-visible_made = record { parted = parted; made = made; follows = follows; normal = normal; print = print; plain = plain; reads = reads }
+visible_made = record { parted = parted; made = made; follows = λ k o. follows k; normal = normal; print = print; plain = plain; reads = reads }

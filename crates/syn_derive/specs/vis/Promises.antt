@@ -1,5 +1,5 @@
 -- What the reader of a visibility promises. A visibility is its own normal form.
-use Rattle.std.specs.Prelude.{◌≡◌, Bool, false, not, [], Option}
+use Rattle.std.specs.Prelude.{◌≡◌, Bool, true, false, [], Option}
 use Rattle.token_core.specs.declared.tree.Delimiter.TheVariants.{Parenthesis}
 use Rattle.token_core.specs.Fronted.{Fronting, Fronts, said}
 use Rattle.token_core.specs.Grammars as grammars
@@ -24,23 +24,23 @@ use Rattle.syn_derive.specs.vis.Spelling.{IsVisibility}
 abbrev pub restriction_fronts : Fronts (Option Held)
 restriction_fronts = maybes restricts (groupings Parenthesis paren_name (pairs (options token.sees_in (said (grammars.word 31))) (said (paths.mod_style_front nothing (λ a. [])))))
 
--- no parentheses that restrict are printed behind `pub`
+-- neither `pub` behind nothing, nor behind `pub` parentheses that restrict
 abbrev pub visibility_plain : Visibility → Toks → Type 0
 visibility_plain (v.Public p) k = restricts k ≡ false
 visibility_plain (v.Restricted x) k = Unit {0}
-visibility_plain v.Inherited k = Unit {0}
+visibility_plain v.Inherited k = token.sees_pub k ≡ false
 
--- what may follow: no `pub`
+-- what may follow: anything that the spelling allows
 abbrev pub visibility : Fronting Visibility
 visibility = record {
   grammar = record {
     spells = λ clear x l. IsVisibility clear x l done;
     normal = λ x. x;
     print = printing.visibility;
-    plain = λ x. Unit {0};
+    plain = λ x. visibility_plain x done;
     reader = reading.visibility;
   };
   begins = λ clear. IsVisibility clear;
-  follows = λ k. not (token.sees_pub k);
+  follows = λ k. true;
   plain = visibility_plain;
 }
