@@ -650,10 +650,11 @@ impl<'a> ParseStream<'a> {
         ensures within { Follows self.old self.new }
         ensures fronts { KeepsFront (options.options T.sees T.fronts) self.old result self.new }
     {
-        if !T::peek(self) {
-            return Ok(None);
+        if T::peek(self) {
+            Ok(Some(T::parse(alloc, self)?))
+        } else {
+            Ok(None)
         }
-        Ok(Some(T::parse(alloc, self)?))
     }
 
     /// The parentheses at the front, and a stream of what they hold.

@@ -8,8 +8,8 @@ returns-in_err-parse-clause-fronts g c =
     let e = c.in_err-parse.field-0.0 in
     kept_err _ _ _ _ e c.from_residual.ensures (refused_kept g.T.Token.sees g.T.Parse.fronts _ _ e (sym c.if-peek.ensures) c.in_err-parse.ensures.fronts)
 
-pub returns-clause-fronts : goal.returns-clause-fronts
-returns-clause-fronts g c = some_kept g.T.Token.sees g.T.Parse.fronts _ _ _ (sym c.if-peek.ensures) c.in_ok-parse.ensures.fronts
+pub returns-in_ok-parse-clause-fronts : goal.returns-in_ok-parse-clause-fronts
+returns-in_ok-parse-clause-fronts g c = some_kept g.T.Token.sees g.T.Parse.fronts _ _ _ (sym c.if-peek.ensures) c.in_ok-parse.ensures.fronts
 
-pub returns-then-not-peek-clause-fronts : goal.returns-then-not-peek-clause-fronts
-returns-then-not-peek-clause-fronts g c = none_kept g.T.Token.sees g.T.Parse.fronts _ (sym c.if-peek.ensures)
+pub returns-else-peek-clause-fronts : goal.returns-else-peek-clause-fronts
+returns-else-peek-clause-fronts g c = none_kept g.T.Token.sees g.T.Parse.fronts _ (sym c.if-peek.ensures)
