@@ -84,7 +84,8 @@ module _ {A T : Type 0} (a : Fronting A) (t : Fronting T) where
   pub record UnnamedFits : Type 0 where
     pub starts : (x : A) (l k : Toks) → a.begins true x l k → is_done k ≡ false → is_done l ≡ false
     pub word : (k : Toks) → token.sees_pub k ≡ true → a.follows k ≡ true
-    pub ty : (clear : Bool) (y : T) (l k : Toks) → t.begins clear y l k → t.follows k ≡ true → (a.follows l ≡ true) × (is_done l ≡ false)
+    pub ty : (clear : Bool) (y : T) (l k : Toks) → t.begins clear y l k → a.follows l ≡ true
+    pub goes : (y : T) (l k : Toks) → t.begins true y l k → is_done l ≡ false
     pub ends : (k : Toks) → ends_field k ≡ true → t.follows k ≡ true
 
   -- what may follow fields in braces or in parentheses: anything
