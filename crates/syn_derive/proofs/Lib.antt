@@ -1,3 +1,3 @@
-pub mod data_laws
+pub mod fields_laws
 pub mod fronts_laws
 pub mod vis_laws

@@ -1,4 +1,4 @@
-pub mod data
+pub mod fields
 pub mod discriminant
 pub mod fronts
 pub mod input

@@ -28,7 +28,7 @@ fn append_open<A: Attributes, E: Value>(
     clause: &Option<WhereClauseOf<A, E>>,
     out: &mut TokenStream,
 ) -> Result<(), AllocError>
-    ensures appends { Appends (heads.open A.shown E.values clause.now) result out.old out.new }
+    ensures appends { Appends (heads.opened A.shown E.values clause.now) result out.old out.new }
 {
     match clause {
         Some(clause) if !clause.predicates.is_empty() => {

@@ -3,7 +3,7 @@
 pub mod print;
 pub mod read;
 
-use crate::data::{FieldsNamedOf, FieldsOf, VariantOf};
+use crate::fields::{FieldsNamedOf, FieldsOf, VariantOf};
 use crate::vis::Visibility;
 use token_core::token::{Brace, Comma, Enum, Semi, Struct, Union};
 use token_core::{Ident, Punctuated};

@@ -8,7 +8,7 @@ ghost use Rattle.token_core.specs.Trees.{trees};
 ghost use Rattle.syn_derive.specs.inputs.Fronts as inputs;
 ghost use Rattle.syn_derive.specs.inputs.Heads.{impl_head};
 
-use crate::data::{FieldOf, FieldsNamedOf, FieldsOf, FieldsUnnamedOf, VariantOf};
+use crate::fields::{FieldOf, FieldsNamedOf, FieldsOf, FieldsUnnamedOf, VariantOf};
 use crate::head::append_head;
 use crate::input::read::parse_input;
 use crate::input::{DataEnumOf, DataOf, DataStructOf, DataUnionOf, DeriveInputOf};

@@ -1,10 +1,10 @@
 //! What derive macros read: visibilities, fields, variants, and structs, enums and unions.
 //!
 //! A layer above `syn_mid`, which uses no more of the crates below than their contracts. Fields, variants and inputs are read and
-//! printed over any parts (`data`, `input`); what their parts are is said last (`inputs`).
+//! printed over any parts (`fields`, `input`); what their parts are is said last (`inputs`).
 #![tactic(auto)]
 
-pub mod data;
+pub mod fields;
 pub mod discriminant;
 pub mod head;
 pub mod input;

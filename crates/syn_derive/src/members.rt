@@ -4,7 +4,7 @@ ghost use Rattle.std.specs.Iterator.{YieldsFirstBy, YieldsFirstRef, item_count};
 ghost use Rattle.std.specs.Prelude.{◌≡◌, IfOk};
 ghost use Rattle.syn_derive.specs.members.Members as spec;
 
-use crate::data::{FieldOf, FieldsOf, VariantOf};
+use crate::fields::{FieldOf, FieldsOf, VariantOf};
 use crate::input::DataOf;
 use std::alloc::{AllocError, Global};
 use std::marker::Model;

@@ -10,6 +10,7 @@ use Rattle.token_core.specs.Front.{front}
 use Rattle.token_core.specs.Fronted.{Fronting, printed_on}
 use Rattle.token_core.specs.Grammars as grammars
 use Rattle.token_core.specs.Groups.{paren_name}
+use Rattle.token_core.specs.Keywords.{is_keyword}
 use Rattle.token_core.specs.Marks.{text_of}
 use Rattle.token_core.specs.Reads.{as_word, is_done, is_text, pure, sees_mark, sees_word, word_meets}
 use Rattle.token_core.specs.Spellings.{IsWord, is_word}
@@ -108,6 +109,7 @@ scope_no_in c h = no_in (as_word (front c)) (first (sees_scope c) _ h)
 
 -- a word of a path is no `in`
 mod_no_in : (t : Bytes) (b : Bool) → bytes_eq t (text_of 31) ≡ b → is_mod_word t ≡ true → b ≡ false
+unfolding is_keyword
 mod_no_in t false e h = refl
 mod_no_in t true e h =
     let n : is_mod_word (text_of 31) ≡ false = refl in
@@ -167,7 +169,7 @@ scope_of s c r h n = or_other (token.sees_in c) (lone_scope c) n h
 
 by_pub : (s u : Stream) (x : token.Pub × Option Held) → Behind.grammar.reader s ≡ Ok (x, u) → reading.behind_pub s ≡ Ok (visible_by x.0 x.1, u)
 by_pub s u x e =
-    let h = took_both _ _ s u x e in
+    let h = took_both Pub.grammar.reader (maybe restricts Group).grammar.reader s u x e in
     link _ h.begins (link _ h.ends refl)
 
 reads : (s u : Stream) (x : Parts) → Row.grammar.reader s ≡ Ok (x, u) → reading.visibility s ≡ Ok (to x, u)
@@ -262,13 +264,13 @@ plain : (x : Parts) (k : Toks) → promises.visibility.plain (to x) k → Row.pl
 plain None k h = h
 plain (Some x) k h = by_option x.0 x.1 k h
   where
-    inside : (o : Option token.In) → (option token.sees_in In).plain o done
-    inside None = tt
-    inside (Some i) = tt
+    inside : (o : Option token.In) (k : Toks) → (option token.sees_in In).plain o k
+    inside None k = tt
+    inside (Some i) k = tt
 
     by_option : (p : token.Pub) (o : Option Held) (k : Toks) → promises.visibility.plain (visible_by p o) k → Behind.plain (p, o) k
     by_option p None k h = (tt, h)
-    by_option p (Some x) k h = (tt, (inside x.1.0, tt))
+    by_option p (Some x) k h = (tt, (inside x.1.0 _, tt))
 
 pub visible_made : Made Row promises.visibility to
 visible_made = record { parted = parted; made = made; follows = λ k o. follows k; normal = normal; print = print; plain = plain; reads = reads }

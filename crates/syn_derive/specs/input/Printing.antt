@@ -7,15 +7,15 @@ use Rattle.token_core.specs.Prints as p
 use Rattle.token_core.specs.Prints.{Print}
 use Rattle.token_core.specs.Spans.{none}
 use Rattle.token_core.specs.Tokens as token
-use Rattle.syn_derive.specs.declared.data.FieldsOf.{FieldsOf}
-use Rattle.syn_derive.specs.declared.data.FieldsOf.TheVariants as f
+use Rattle.syn_derive.specs.declared.fields.FieldsOf.{FieldsOf}
+use Rattle.syn_derive.specs.declared.fields.FieldsOf.TheVariants as f
 use Rattle.syn_derive.specs.declared.input.DataOf.{DataOf}
 use Rattle.syn_derive.specs.declared.input.DataOf.TheVariants as d
 use Rattle.syn_derive.specs.declared.input.DataEnumOf.{DataEnumOf}
 use Rattle.syn_derive.specs.declared.input.DataStructOf.{DataStructOf}
 use Rattle.syn_derive.specs.declared.input.DataUnionOf.{DataUnionOf}
 use Rattle.syn_derive.specs.declared.input.DeriveInputOf.{DeriveInputOf}
-use Rattle.syn_derive.specs.data.Printing as fields
+use Rattle.syn_derive.specs.fields.Printing as fields
 use Rattle.syn_derive.specs.input.Trees.{Variants}
 use Rattle.syn_derive.specs.part.Declared.{Joint}
 use Rattle.syn_derive.specs.vis.Printing.{visibility}
@@ -51,11 +51,11 @@ module _ {W A T E : Type 0} (w : Fronting W) (a : Fronting A) (t : Fronting T) (
   an_enum z x = w.grammar.print z ++ p.group Brace (variants x.variants) x.brace_token.span
 
   -- a where clause, and what an input holds
-  abbrev pub data : W → DataOf A T E → Print
-  data z (d.Struct x) = a_struct w a t z x
-  data z (d.Enum x) = an_enum z x
-  data z (d.Union x) = a_union w a t z x
+  abbrev pub held : W → DataOf A T E → Print
+  held z (d.Struct x) = a_struct w a t z x
+  held z (d.Enum x) = an_enum z x
+  held z (d.Union x) = a_union w a t z x
 
 module _ {A G W T E : Type 0} (j : Joint G W) (a : Fronting A) (g : Fronting G) (w : Fronting W) (t : Fronting T) (lens : E → Print) where
   abbrev pub input : DeriveInputOf A G T E → Print
-  input x = a.grammar.print x.attrs ++ (visibility x.vis ++ (word x.data ++ (p.ident x.ident ++ (g.grammar.print x.generics ++ data w a t lens (j.clause_of x.generics) x.data))))
+  input x = a.grammar.print x.attrs ++ (visibility x.vis ++ (word x.«data» ++ (p.ident x.ident ++ (g.grammar.print x.generics ++ held w a t lens (j.clause_of x.generics) x.«data»))))

@@ -14,16 +14,16 @@ use Rattle.token_core.specs.Trees.{row}
 use Rattle.token_core.specs.fronts.Groups.{groupings}
 use Rattle.token_core.specs.fronts.Lists.{each_plain, listings}
 use Rattle.syn_path.specs.Traits.{Expressions}
-use Rattle.syn_derive.specs.declared.data.FieldsOf.{FieldsOf}
-use Rattle.syn_derive.specs.declared.data.FieldsOf.TheVariants as f
+use Rattle.syn_derive.specs.declared.fields.FieldsOf.{FieldsOf}
+use Rattle.syn_derive.specs.declared.fields.FieldsOf.TheVariants as f
 use Rattle.syn_derive.specs.declared.input.DataOf.{DataOf}
 use Rattle.syn_derive.specs.declared.input.DataOf.TheVariants as d
 use Rattle.syn_derive.specs.declared.input.DeriveInputOf.{DeriveInputOf}
 use Rattle.syn_derive.specs.declared.input.read.BodyOf.{BodyOf}
 use Rattle.syn_derive.specs.declared.input.read.DeclaredOf.{DeclaredOf}
-use Rattle.syn_derive.specs.data.Normal as fields_normal
-use Rattle.syn_derive.specs.data.Printing as fields_printing
-use Rattle.syn_derive.specs.data.Promises.{FieldsFit, fields_plain, variant}
+use Rattle.syn_derive.specs.fields.Normal as fields_normal
+use Rattle.syn_derive.specs.fields.Printing as fields_printing
+use Rattle.syn_derive.specs.fields.Promises.{FieldsFit, named_fields, unnamed_fields, variant}
 use Rattle.syn_derive.specs.discriminant.Fronts as discriminants
 use Rattle.syn_derive.specs.input.Normal as normal
 use Rattle.syn_derive.specs.input.Printing as printing
@@ -38,37 +38,40 @@ abbrev pub ends_clause : Toks → Bool
 ends_clause k = sees_group Brace k || token.sees_semi k
 
 module _ {A T : Type 0} (a : Fronting A) (t : Fronting T) where
-  abbrev pub fields_print : FieldsOf A T × Option token.Semi → Print
-  fields_print x = by_fields x.1 x.0
-    where
-      abbrev by_fields : Option token.Semi → FieldsOf A T → Print
-      by_fields q (f.Named v) = fields_printing.named_fields a t v
-      by_fields q (f.Unnamed v) = fields_printing.unnamed_fields a t v ++ printing.semi_or_default q
-      by_fields q f.Unit = printing.semi_or_default q
+  -- fields that a `;` or their group ends
+  abbrev pub fields_alone : FieldsOf A T → Type 0
+  fields_alone (f.Named x) = (named_fields a t).grammar.plain x
+  fields_alone (f.Unnamed x) = (unnamed_fields a t).grammar.plain x
+  fields_alone f.Unit = Unit {0}
+
+  abbrev pub fields_by : Option token.Semi → FieldsOf A T → Print
+  fields_by q (f.Named v) = fields_printing.named_fields a t v
+  fields_by q (f.Unnamed v) = fields_printing.unnamed_fields a t v ++ printing.semi_or_default q
+  fields_by q f.Unit = printing.semi_or_default q
 
   -- what stands behind a where clause; anything may follow
-  abbrev pub open : Bool → Fronting (FieldsOf A T × Option token.Semi)
-  open clause = record {
+  abbrev pub opened : Bool → Fronting (FieldsOf A T × Option token.Semi)
+  opened clause = record {
     grammar = record {
       spells = λ clear x l. IsOpen a t clear x l done;
       normal = λ x. (fields_normal.fields a t x.0, x.1);
-      print = fields_print;
-      plain = λ x. fields_plain a t x.0;
+      print = λ x. fields_by x.1 x.0;
+      plain = λ x. fields_alone a t x.0;
       reader = reading.body a.grammar.reader t.grammar.reader clause;
     };
     begins = IsOpen a t;
     follows = λ k. true;
-    plain = λ x k. fields_plain a t x.0;
+    plain = λ x k. fields_alone a t x.0;
   }
 
   abbrev pub open_fronts : Bool → Fronts (FieldsOf A T × Option token.Semi)
-  open_fronts clause = given (FieldsFit a t) (open clause)
+  open_fronts clause = given (FieldsFit a t) (opened clause)
 
 module _ {W A T : Type 0} (w : Fronting W) (a : Fronting A) (t : Fronting T) where
   -- a where clause is plain before what is printed behind it
   abbrev pub body_plain : W → Option token.Semi → FieldsOf A T → Toks → Type 0
-  body_plain z q (f.Named x) k = w.plain z (row (fields_printing.named_fields a t x) k) × fields_plain a t (f.Named x)
-  body_plain z q (f.Unnamed x) k = w.plain z (row (printing.semi_or_default q) k) × fields_plain a t (f.Unnamed x)
+  body_plain z q (f.Named x) k = w.plain z (row (fields_printing.named_fields a t x) k) × fields_alone a t (f.Named x)
+  body_plain z q (f.Unnamed x) k = w.plain z (row (printing.semi_or_default q) k) × fields_alone a t (f.Unnamed x)
   body_plain z q f.Unit k = w.plain z (row (printing.semi_or_default q) k)
 
   -- what stands behind a struct's generics; anything may follow
@@ -104,13 +107,13 @@ module _ {A G W T E : Type 0} (j : Joint G W) (a : Fronting A) (g : Fronting G) 
   data_plain z (d.Struct x) k = body_plain w a t z x.semi_token x.fields k
   data_plain z (d.Enum x) k =
       w.plain z (row (p.group Brace (printing.variants w a t exprs.values.len x.variants) x.brace_token.span) k) × each_plain (variant a t exprs) (grammars.mark 4 1) x.variants.0 x.variants.1 done
-  data_plain z (d.Union x) k = w.plain z (row (fields_printing.named_fields a t x.fields) k) × fields_plain a t (f.Named x.fields)
+  data_plain z (d.Union x) k = w.plain z (row (fields_printing.named_fields a t x.fields) k) × fields_alone a t (f.Named x.fields)
 
   abbrev pub declared_print : DeclaredOf A G T E → Print
-  declared_print x = printing.word x.data ++ (p.ident x.ident ++ (g.grammar.print x.generics ++ printing.data w a t exprs.values.len (j.clause_of x.generics) x.data))
+  declared_print x = printing.word x.«data» ++ (p.ident x.ident ++ (g.grammar.print x.generics ++ printing.held w a t exprs.values.len (j.clause_of x.generics) x.«data»))
 
   abbrev pub declared_plain : DeclaredOf A G T E → Toks → Type 0
-  declared_plain x k = g.plain (j.bare x.generics) (row (printing.data w a t exprs.values.len (j.clause_of x.generics) x.data) k) × data_plain (j.clause_of x.generics) x.data k
+  declared_plain x k = g.plain (j.bare x.generics) (row (printing.held w a t exprs.values.len (j.clause_of x.generics) x.«data») k) × data_plain (j.clause_of x.generics) x.«data» k
 
   -- what stands behind a visibility; anything may follow
   abbrev pub declared : Fronting (DeclaredOf A G T E)
@@ -130,7 +133,7 @@ module _ {A G W T E : Type 0} (j : Joint G W) (a : Fronting A) (g : Fronting G) 
   -- attributes are plain before what is printed behind them
   abbrev pub input_plain : DeriveInputOf A G T E → Toks → Type 0
   input_plain x k =
-      a.plain x.attrs (row (vis_printing.visibility x.vis ++ declared_print (record { ident = x.ident; generics = x.generics; data = x.data })) k) × declared_plain (record { ident = x.ident; generics = x.generics; data = x.data }) k
+      a.plain x.attrs (row (vis_printing.visibility x.vis ++ declared_print (record { ident = x.ident; generics = x.generics; «data» = x.«data» })) k) × declared_plain (record { ident = x.ident; generics = x.generics; «data» = x.«data» }) k
 
   -- what may follow an input: anything
   abbrev pub input : Fronting (DeriveInputOf A G T E)

@@ -9,12 +9,12 @@ use Rattle.token_core.specs.Names as names
 use Rattle.token_core.specs.Reads.{Reader, ◌>>=◌, ◌<$>◌, pure, peek, expected, is_done, in_group, sees_group}
 use Rattle.token_core.specs.Tokens as token
 use Rattle.token_core.specs.Toks.{Bytes}
-use Rattle.syn_derive.specs.declared.data.FieldsOf.{FieldsOf}
-use Rattle.syn_derive.specs.declared.data.FieldsOf.TheVariants as f
+use Rattle.syn_derive.specs.declared.fields.FieldsOf.{FieldsOf}
+use Rattle.syn_derive.specs.declared.fields.FieldsOf.TheVariants as f
 use Rattle.syn_derive.specs.declared.input.DeriveInputOf.{DeriveInputOf}
 use Rattle.syn_derive.specs.declared.input.read.BodyOf.{BodyOf}
 use Rattle.syn_derive.specs.declared.input.read.DeclaredOf.{DeclaredOf}
-use Rattle.syn_derive.specs.data.Reading.{named_fields, unnamed_fields, variant}
+use Rattle.syn_derive.specs.fields.Reading.{named_fields, unnamed_fields, variant}
 use Rattle.syn_derive.specs.input.Trees as trees
 use Rattle.syn_derive.specs.input.Trees.{Variants, body_of, declared_of, input_of}
 use Rattle.syn_derive.specs.part.Declared.{Joint}

@@ -9,16 +9,16 @@ use Rattle.token_core.specs.Names.{IsName}
 use Rattle.token_core.specs.Spellings.{IsMark, IsWord}
 use Rattle.token_core.specs.Tokens as token
 use Rattle.token_core.specs.Toks.{Toks, done, group}
-use Rattle.syn_derive.specs.declared.data.FieldsNamedOf.{FieldsNamedOf}
-use Rattle.syn_derive.specs.declared.data.FieldsOf.{FieldsOf}
-use Rattle.syn_derive.specs.declared.data.FieldsOf.TheVariants as f
-use Rattle.syn_derive.specs.declared.data.FieldsUnnamedOf.{FieldsUnnamedOf}
-use Rattle.syn_derive.specs.declared.data.VariantOf.{VariantOf}
+use Rattle.syn_derive.specs.declared.fields.FieldsNamedOf.{FieldsNamedOf}
+use Rattle.syn_derive.specs.declared.fields.FieldsOf.{FieldsOf}
+use Rattle.syn_derive.specs.declared.fields.FieldsOf.TheVariants as f
+use Rattle.syn_derive.specs.declared.fields.FieldsUnnamedOf.{FieldsUnnamedOf}
+use Rattle.syn_derive.specs.declared.fields.VariantOf.{VariantOf}
 use Rattle.syn_derive.specs.declared.input.DeriveInputOf.{DeriveInputOf}
 use Rattle.syn_derive.specs.declared.input.read.BodyOf.{BodyOf}
 use Rattle.syn_derive.specs.declared.input.read.DeclaredOf.{DeclaredOf}
 use Rattle.syn_derive.specs.declared.vis.Visibility.{Visibility}
-use Rattle.syn_derive.specs.data.Spelling.{AreNamed, AreUnnamed, IsVariant}
+use Rattle.syn_derive.specs.fields.Spelling.{AreNamed, AreUnnamed, IsVariant}
 use Rattle.syn_derive.specs.input.Trees as trees
 use Rattle.syn_derive.specs.input.Trees.{body_of, declared_of, input_of}
 use Rattle.syn_derive.specs.part.Declared.{Joint}

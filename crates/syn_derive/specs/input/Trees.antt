@@ -5,9 +5,9 @@ use Rattle.token_core.specs.declared.tree.Ident.{Ident}
 use Rattle.token_core.specs.Groups.{brace}
 use Rattle.token_core.specs.Loops.{Many}
 use Rattle.token_core.specs.Tokens as token
-use Rattle.syn_derive.specs.declared.data.FieldsNamedOf.{FieldsNamedOf}
-use Rattle.syn_derive.specs.declared.data.FieldsOf.{FieldsOf}
-use Rattle.syn_derive.specs.declared.data.VariantOf.{VariantOf}
+use Rattle.syn_derive.specs.declared.fields.FieldsNamedOf.{FieldsNamedOf}
+use Rattle.syn_derive.specs.declared.fields.FieldsOf.{FieldsOf}
+use Rattle.syn_derive.specs.declared.fields.VariantOf.{VariantOf}
 use Rattle.syn_derive.specs.declared.input.DataOf.{DataOf}
 use Rattle.syn_derive.specs.declared.input.DataOf.TheVariants as d
 use Rattle.syn_derive.specs.declared.input.DeriveInputOf.{DeriveInputOf}
@@ -23,7 +23,7 @@ abbrev pub body_of : {W A T : Type 0} → W → FieldsOf A T → Option token.Se
 body_of z v q = record { where_clause = z; fields = v; semi_token = q }
 
 abbrev pub declared_of : {A G T E : Type 0} → Ident → G → DataOf A T E → DeclaredOf A G T E
-declared_of i y v = record { ident = i; generics = y; data = v }
+declared_of i y v = record { ident = i; generics = y; «data» = v }
 
 abbrev pub a_struct : {A T E : Type 0} → token.Struct → FieldsOf A T → Option token.Semi → DataOf A T E
 a_struct w v q = d.Struct (record { struct_token = w; fields = v; semi_token = q })
@@ -35,4 +35,4 @@ abbrev pub a_union : {A T E : Type 0} → token.Union → FieldsNamedOf A T → 
 a_union w v = d.Union (record { union_token = w; fields = v })
 
 abbrev pub input_of : {A G T E : Type 0} → A → Visibility → DeclaredOf A G T E → DeriveInputOf A G T E
-input_of x v y = record { attrs = x; vis = v; ident = y.ident; generics = y.generics; data = y.data }
+input_of x v y = record { attrs = x; vis = v; ident = y.ident; generics = y.generics; «data» = y.«data» }

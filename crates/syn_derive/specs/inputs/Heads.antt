@@ -38,13 +38,13 @@ module _ {A E : Type 0} (attrs : List A → Print) (values : Values E) where
   closing (x ∷ xs) (q ∷ ps) = closing xs ps
 
   -- `where`, and the predicates, each with its comma
-  abbrev pub open_by : List (WherePredicateOf A E) → WhereClauseOf A E → Print
-  open_by [] c = p.word where_word
-  open_by (x ∷ xs) c = clauses.where_clause attrs values c ++ closing (x ∷ xs) c.predicates.1
+  abbrev pub opened_by : List (WherePredicateOf A E) → WhereClauseOf A E → Print
+  opened_by [] c = p.word where_word
+  opened_by (x ∷ xs) c = clauses.where_clause attrs values c ++ closing (x ∷ xs) c.predicates.1
 
-  abbrev pub open : Option (WhereClauseOf A E) → Print
-  open None = p.word where_word
-  open (Some c) = open_by c.predicates.0 c
+  abbrev pub opened : Option (WhereClauseOf A E) → Print
+  opened None = p.word where_word
+  opened (Some c) = opened_by c.predicates.0 c
 
   -- each type parameter, `:`, the bound and a comma
   abbrev pub each_bound : Print → List (TypeParam A E) → Print
@@ -56,7 +56,7 @@ module _ {A E : Type 0} (attrs : List A → Print) (values : Values E) where
   -- a where clause; with type parameters one that asks the bound of each too
   abbrev pub clause_by : List (TypeParam A E) → GenericsOf A E → Path A E → Print
   clause_by [] x bound = p.optional (clauses.where_clause attrs values) x.where_clause
-  clause_by (y ∷ ys) x bound = open x.where_clause ++ bounds x bound
+  clause_by (y ∷ ys) x bound = opened x.where_clause ++ bounds x bound
 
   abbrev pub clause : GenericsOf A E → Path A E → Print
   clause x bound = clause_by (only as_type x.params.0) x bound

@@ -12,10 +12,10 @@ use Rattle.std.specs.Slice.Iter.{iter_rest}
 use Rattle.syn_path.specs.path.Paths as paths
 use Rattle.syn_attr.specs.attr.Attrs.{Attribute}
 use Rattle.syn_attr.specs.attr.Requirements.{path_in}
-use Rattle.syn_derive.specs.declared.data.FieldOf.{FieldOf}
-use Rattle.syn_derive.specs.declared.data.FieldsOf.{FieldsOf}
-use Rattle.syn_derive.specs.declared.data.FieldsOf.TheVariants as f
-use Rattle.syn_derive.specs.declared.data.VariantOf.{VariantOf}
+use Rattle.syn_derive.specs.declared.fields.FieldOf.{FieldOf}
+use Rattle.syn_derive.specs.declared.fields.FieldsOf.{FieldsOf}
+use Rattle.syn_derive.specs.declared.fields.FieldsOf.TheVariants as f
+use Rattle.syn_derive.specs.declared.fields.VariantOf.{VariantOf}
 use Rattle.syn_derive.specs.declared.input.DataOf.{DataOf}
 use Rattle.syn_derive.specs.declared.input.DataOf.TheVariants as d
 use Rattle.syn_derive.specs.declared.members.AttrsNamed.{AttrsNamed}

@@ -4,7 +4,7 @@ ghost use Rattle.std.specs.Prelude.{◌≡◌, ◌++◌, OnErr, OnOk};
 ghost use Rattle.token_core.specs.Prints.{Appends};
 ghost use Rattle.syn_derive.specs.input.Printing as printing;
 
-use crate::data::FieldsOf;
+use crate::fields::FieldsOf;
 use crate::input::{DataEnumOf, DataOf, DataStructOf, DataUnionOf, DeriveInputOf};
 use crate::part::Declared;
 use item_small::part::Part;
@@ -15,15 +15,15 @@ use token_core::{ToTokens, TokenStream, TokensOrDefault};
 /// Appends `struct`, `enum` or `union`; refused, what stood before is kept.
 fn append_word<A: Part, T: Part, E: Value>(
     alloc: Global,
-    data: &DataOf<A, T, E>,
+    held: &DataOf<A, T, E>,
     out: &mut TokenStream,
 ) -> Result<(), AllocError>
-    ensures appends { Appends (printing.word data.now) result out.old out.new }
+    ensures appends { Appends (printing.word held.now) result out.old out.new }
 {
-    match data {
-        DataOf::Struct(data) => data.struct_token.append_tokens(alloc, out),
-        DataOf::Enum(data) => data.enum_token.append_tokens(alloc, out),
-        DataOf::Union(data) => data.union_token.append_tokens(alloc, out),
+    match held {
+        DataOf::Struct(held) => held.struct_token.append_tokens(alloc, out),
+        DataOf::Enum(held) => held.enum_token.append_tokens(alloc, out),
+        DataOf::Union(held) => held.union_token.append_tokens(alloc, out),
     }
 }
 
@@ -32,12 +32,12 @@ fn append_word<A: Part, T: Part, E: Value>(
 fn append_struct<W: Part, A: Part, T: Part>(
     alloc: Global,
     clause: &W,
-    data: &DataStructOf<A, T>,
+    held: &DataStructOf<A, T>,
     out: &mut TokenStream,
 ) -> Result<(), AllocError>
-    ensures appends { Appends (printing.a_struct W.front A.front T.front clause.now data.now) result out.old out.new }
+    ensures appends { Appends (printing.a_struct W.front A.front T.front clause.now held.now) result out.old out.new }
 {
-    match &data.fields {
+    match &held.fields {
         FieldsOf::Named(fields) => {
             clause.append(alloc, out)?;
             fields.append_tokens(alloc, out)
@@ -45,11 +45,11 @@ fn append_struct<W: Part, A: Part, T: Part>(
         FieldsOf::Unnamed(fields) => {
             fields.append_tokens(alloc, out)?;
             clause.append(alloc, out)?;
-            TokensOrDefault(&data.semi_token).append_tokens(alloc, out)
+            TokensOrDefault(&held.semi_token).append_tokens(alloc, out)
         }
         FieldsOf::Unit => {
             clause.append(alloc, out)?;
-            TokensOrDefault(&data.semi_token).append_tokens(alloc, out)
+            TokensOrDefault(&held.semi_token).append_tokens(alloc, out)
         }
     }
 }
@@ -59,16 +59,16 @@ fn append_struct<W: Part, A: Part, T: Part>(
 fn append_enum<W: Part, A: Part, T: Part, E: Value>(
     alloc: Global,
     clause: &W,
-    data: &DataEnumOf<A, T, E>,
+    held: &DataEnumOf<A, T, E>,
     out: &mut TokenStream,
 ) -> Result<(), AllocError>
-    ensures appends { Appends (printing.an_enum W.front A.front T.front E.values.len clause.now data.now)
+    ensures appends { Appends (printing.an_enum W.front A.front T.front E.values.len clause.now held.now)
         result out.old out.new }
 {
     clause.append(alloc, out)?;
     let mut inside = TokenStream::new(alloc);
-    data.variants.to_tokens(alloc, &mut inside)?;
-    data.brace_token.surround(inside, out)
+    held.variants.to_tokens(alloc, &mut inside)?;
+    held.brace_token.surround(inside, out)
 }
 
 /// Appends a union's where clause and its fields; refused, what stood before is kept.
@@ -76,29 +76,29 @@ fn append_enum<W: Part, A: Part, T: Part, E: Value>(
 fn append_union<W: Part, A: Part, T: Part>(
     alloc: Global,
     clause: &W,
-    data: &DataUnionOf<A, T>,
+    held: &DataUnionOf<A, T>,
     out: &mut TokenStream,
 ) -> Result<(), AllocError>
-    ensures appends { Appends (printing.a_union W.front A.front T.front clause.now data.now) result out.old out.new }
+    ensures appends { Appends (printing.a_union W.front A.front T.front clause.now held.now) result out.old out.new }
 {
     clause.append(alloc, out)?;
-    data.fields.append_tokens(alloc, out)
+    held.fields.append_tokens(alloc, out)
 }
 
 /// Appends what stands behind the generics; refused, what stood before is kept.
 fn append_data<W: Part, A: Part, T: Part, E: Value>(
     alloc: Global,
     clause: &W,
-    data: &DataOf<A, T, E>,
+    held: &DataOf<A, T, E>,
     out: &mut TokenStream,
 ) -> Result<(), AllocError>
-    ensures appends { Appends (printing.data W.front A.front T.front E.values.len clause.now data.now)
+    ensures appends { Appends (printing.held W.front A.front T.front E.values.len clause.now held.now)
         result out.old out.new }
 {
-    match data {
-        DataOf::Struct(data) => append_struct(alloc, clause, data, out),
-        DataOf::Enum(data) => append_enum(alloc, clause, data, out),
-        DataOf::Union(data) => append_union(alloc, clause, data, out),
+    match held {
+        DataOf::Struct(held) => append_struct(alloc, clause, held, out),
+        DataOf::Enum(held) => append_enum(alloc, clause, held, out),
+        DataOf::Union(held) => append_union(alloc, clause, held, out),
     }
 }
 

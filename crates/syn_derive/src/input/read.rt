@@ -9,7 +9,7 @@ ghost use Rattle.token_core.specs.declared.tree.Delimiter.TheVariants as delimit
 ghost use Rattle.syn_derive.specs.input.Promises as promises;
 ghost use Rattle.syn_derive.specs.input.Reading as reading;
 
-use crate::data::{FieldsNamedOf, FieldsOf, FieldsUnnamedOf, VariantOf};
+use crate::fields::{FieldsNamedOf, FieldsOf, FieldsUnnamedOf, VariantOf};
 use crate::input::{DataEnumOf, DataOf, DataStructOf, DataUnionOf, DeriveInputOf};
 use crate::part::Declared;
 use crate::vis::Visibility;

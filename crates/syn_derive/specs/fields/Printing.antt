@@ -8,13 +8,13 @@ use Rattle.token_core.specs.Prints as p
 use Rattle.token_core.specs.Prints.{Print}
 use Rattle.token_core.specs.Spans.{none}
 use Rattle.token_core.specs.Tokens as token
-use Rattle.syn_derive.specs.declared.data.FieldOf.{FieldOf}
-use Rattle.syn_derive.specs.declared.data.FieldsNamedOf.{FieldsNamedOf}
-use Rattle.syn_derive.specs.declared.data.FieldsOf.{FieldsOf}
-use Rattle.syn_derive.specs.declared.data.FieldsOf.TheVariants as f
-use Rattle.syn_derive.specs.declared.data.FieldsUnnamedOf.{FieldsUnnamedOf}
-use Rattle.syn_derive.specs.declared.data.VariantOf.{VariantOf}
-use Rattle.syn_derive.specs.data.Trees.{Listed}
+use Rattle.syn_derive.specs.declared.fields.FieldOf.{FieldOf}
+use Rattle.syn_derive.specs.declared.fields.FieldsNamedOf.{FieldsNamedOf}
+use Rattle.syn_derive.specs.declared.fields.FieldsOf.{FieldsOf}
+use Rattle.syn_derive.specs.declared.fields.FieldsOf.TheVariants as f
+use Rattle.syn_derive.specs.declared.fields.FieldsUnnamedOf.{FieldsUnnamedOf}
+use Rattle.syn_derive.specs.declared.fields.VariantOf.{VariantOf}
+use Rattle.syn_derive.specs.fields.Trees.{Listed}
 use Rattle.syn_derive.specs.vis.Printing.{visibility}
 
 -- a `:`, or one that stands nowhere
@@ -45,10 +45,10 @@ module _ {A T : Type 0} (a : Fronting A) (t : Fronting T) where
   fields f.Unit = []
 
 -- `=` and a discriminant, if there is one
-abbrev pub with_eq : {E : Type 0} → (E → Print) → token.Eq × E → Print
+abbrev pub with_eq : {E : Type 0} → (E → Print) → token.Equals × E → Print
 with_eq lens x = p.mark x.0 ++ lens x.1
 
-abbrev pub assigned : {E : Type 0} → (E → Print) → Option (token.Eq × E) → Print
+abbrev pub assigned : {E : Type 0} → (E → Print) → Option (token.Equals × E) → Print
 assigned lens d = p.optional (with_eq lens) d
 
 abbrev pub variant : {A T E : Type 0} → Fronting A → Fronting T → (E → Print) → VariantOf A T E → Print

@@ -11,14 +11,14 @@ use Rattle.token_core.specs.Reads.{sees_group}
 use Rattle.token_core.specs.Spellings.{IsMark}
 use Rattle.token_core.specs.Tokens as token
 use Rattle.token_core.specs.Toks.{Toks, done, group}
-use Rattle.syn_derive.specs.declared.data.FieldOf.{FieldOf}
-use Rattle.syn_derive.specs.declared.data.FieldsNamedOf.{FieldsNamedOf}
-use Rattle.syn_derive.specs.declared.data.FieldsOf.{FieldsOf}
-use Rattle.syn_derive.specs.declared.data.FieldsOf.TheVariants as f
-use Rattle.syn_derive.specs.declared.data.FieldsUnnamedOf.{FieldsUnnamedOf}
-use Rattle.syn_derive.specs.declared.data.VariantOf.{VariantOf}
+use Rattle.syn_derive.specs.declared.fields.FieldOf.{FieldOf}
+use Rattle.syn_derive.specs.declared.fields.FieldsNamedOf.{FieldsNamedOf}
+use Rattle.syn_derive.specs.declared.fields.FieldsOf.{FieldsOf}
+use Rattle.syn_derive.specs.declared.fields.FieldsOf.TheVariants as f
+use Rattle.syn_derive.specs.declared.fields.FieldsUnnamedOf.{FieldsUnnamedOf}
+use Rattle.syn_derive.specs.declared.fields.VariantOf.{VariantOf}
 use Rattle.syn_derive.specs.declared.vis.Visibility.{Visibility}
-use Rattle.syn_derive.specs.data.Trees.{named_of, unnamed_of, variant_of}
+use Rattle.syn_derive.specs.fields.Trees.{named_of, unnamed_of, variant_of}
 use Rattle.syn_derive.specs.vis.Spelling.{IsVisibility}
 
 module _ {A T : Type 0} (a : Fronting A) (t : Fronting T) (clear : Bool) where
@@ -52,6 +52,6 @@ module _ {A T : Type 0} (a : Fronting A) (t : Fronting T) (clear : Bool) where
 module _ {A T E : Type 0} (a : Fronting A) (t : Fronting T) (e : Fronting E) (clear : Bool) where
   -- attributes, a name and fields; behind a `=` a discriminant, or none, before no `=`
   pub data IsVariant : VariantOf A T E → Toks → Toks → Type 0 where
-    a_variant : {x : A} {i : Ident} {v : FieldsOf A T} {l m n r : Toks} → a.begins clear x l m → IsName clear i m n → IsFields a t clear v n r → token.sees_eq r ≡ false → IsVariant (variant_of x i v None) l r
-    a_numbered_variant : {x : A} {i : Ident} {v : FieldsOf A T} {q : token.Eq} {y : E} {l m n o k r : Toks} →
+    a_variant : {x : A} {i : Ident} {v : FieldsOf A T} {l m n r : Toks} → a.begins clear x l m → IsName clear i m n → IsFields a t clear v n r → token.sees_equals r ≡ false → IsVariant (variant_of x i v None) l r
+    a_numbered_variant : {x : A} {i : Ident} {v : FieldsOf A T} {q : token.Equals} {y : E} {l m n o k r : Toks} →
         a.begins clear x l m → IsName clear i m n → IsFields a t clear v n o → IsMark clear q o k → e.begins clear y k r → IsVariant (variant_of x i v (Some (q, y))) l r

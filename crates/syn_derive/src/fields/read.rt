@@ -3,11 +3,11 @@
 ghost use Rattle.std.specs.Prelude.{◌≡◌};
 ghost use Rattle.token_core.specs.Fronted.{KeepsFront, given};
 ghost use Rattle.token_core.specs.Reads.{Fails, Follows, Gives, Parses};
-ghost use Rattle.syn_derive.specs.data.Promises as promises;
-ghost use Rattle.syn_derive.specs.data.Promises.{FieldFits, FieldsFit, Goes, UnnamedFits};
-ghost use Rattle.syn_derive.specs.data.Reading as reading;
+ghost use Rattle.syn_derive.specs.fields.Promises as promises;
+ghost use Rattle.syn_derive.specs.fields.Promises.{FieldFits, FieldsFit, Goes, UnnamedFits};
+ghost use Rattle.syn_derive.specs.fields.Reading as reading;
 
-use crate::data::{FieldOf, FieldsNamedOf, FieldsOf, FieldsUnnamedOf, VariantOf};
+use crate::fields::{FieldOf, FieldsNamedOf, FieldsOf, FieldsUnnamedOf, VariantOf};
 use crate::discriminant::ByDiscriminant;
 use crate::lists::ByTerminatedWith;
 use crate::vis::Visibility;

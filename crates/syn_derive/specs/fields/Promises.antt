@@ -1,5 +1,5 @@
 -- What the readers of fields and variants promise, by what those of their parts say of fronts.
-use Rattle.std.specs.Prelude.{◌≡◌, ◌&&◌, ◌||◌, Bool, true, false, not, Option, Some, None, ◌++◌}
+use Rattle.std.specs.Prelude.{◌≡◌, ◌||◌, Bool, true, false, Option, Some, None, ◌++◌}
 use Rattle.token_core.specs.declared.tree.Delimiter.TheVariants.{Brace, Parenthesis}
 use Rattle.token_core.specs.Fronted.{Fronting, Fronts, said, printed_on}
 use Rattle.token_core.specs.Grammars as grammars
@@ -12,19 +12,19 @@ use Rattle.token_core.specs.Toks.{Toks, done}
 use Rattle.token_core.specs.Trees.{row}
 use Rattle.token_core.specs.fronts.Both.{pairs}
 use Rattle.token_core.specs.fronts.Lists.{each_plain}
-use Rattle.token_core.specs.fronts.Options.{options}
 use Rattle.syn_path.specs.Traits.{Expressions}
-use Rattle.syn_derive.specs.declared.data.FieldOf.{FieldOf}
-use Rattle.syn_derive.specs.declared.data.FieldsNamedOf.{FieldsNamedOf}
-use Rattle.syn_derive.specs.declared.data.FieldsOf.{FieldsOf}
-use Rattle.syn_derive.specs.declared.data.FieldsOf.TheVariants as f
-use Rattle.syn_derive.specs.declared.data.FieldsUnnamedOf.{FieldsUnnamedOf}
-use Rattle.syn_derive.specs.declared.data.VariantOf.{VariantOf}
-use Rattle.syn_derive.specs.data.Normal as normal
-use Rattle.syn_derive.specs.data.Printing as printing
-use Rattle.syn_derive.specs.data.Reading as reading
-use Rattle.syn_derive.specs.data.Spelling.{IsNamed, IsUnnamed, AreNamed, AreUnnamed, IsFields, IsVariant}
+use Rattle.syn_derive.specs.declared.fields.FieldOf.{FieldOf}
+use Rattle.syn_derive.specs.declared.fields.FieldsNamedOf.{FieldsNamedOf}
+use Rattle.syn_derive.specs.declared.fields.FieldsOf.{FieldsOf}
+use Rattle.syn_derive.specs.declared.fields.FieldsOf.TheVariants as f
+use Rattle.syn_derive.specs.declared.fields.FieldsUnnamedOf.{FieldsUnnamedOf}
+use Rattle.syn_derive.specs.declared.fields.VariantOf.{VariantOf}
+use Rattle.syn_derive.specs.fields.Normal as normal
+use Rattle.syn_derive.specs.fields.Printing as printing
+use Rattle.syn_derive.specs.fields.Reading as reading
+use Rattle.syn_derive.specs.fields.Spelling.{IsNamed, IsUnnamed, AreNamed, AreUnnamed, IsFields, IsVariant}
 use Rattle.syn_derive.specs.discriminant.Fronts as discriminants
+use Rattle.syn_derive.specs.fronts.Maybe.{maybes}
 use Rattle.syn_derive.specs.vis.Printing as vis_printing
 use Rattle.syn_derive.specs.vis.Promises.{visibility_plain}
 
@@ -117,24 +117,29 @@ module _ {A T : Type 0} (a : Fronting A) (t : Fronting T) where
     plain = λ x k. each_plain unnamed_field (grammars.mark 4 1) x.unnamed.0 x.unnamed.1 done;
   }
 
-  abbrev pub fields_plain : FieldsOf A T → Type 0
-  fields_plain (f.Named x) = named_fields.grammar.plain x
-  fields_plain (f.Unnamed x) = unnamed_fields.grammar.plain x
-  fields_plain f.Unit = Unit {0}
+  -- fields of a variant begin there
+  abbrev pub sees_fields : Toks → Bool
+  sees_fields k = sees_group Brace k || sees_group Parenthesis k
 
-  -- what may follow the fields of a variant: neither braces nor parentheses
+  -- where there are none, none follow
+  abbrev pub fields_plain : FieldsOf A T → Toks → Type 0
+  fields_plain (f.Named x) k = named_fields.plain x k
+  fields_plain (f.Unnamed x) k = unnamed_fields.plain x k
+  fields_plain f.Unit k = sees_fields k ≡ false
+
+  -- what may follow the fields of a variant: anything that the spelling allows
   abbrev pub fields : Fronting (FieldsOf A T)
   fields = record {
     grammar = record {
       spells = λ clear x l. IsFields a t clear x l done;
       normal = normal.fields a t;
       print = printing.fields a t;
-      plain = fields_plain;
+      plain = λ x. fields_plain x done;
       reader = reading.fields a.grammar.reader t.grammar.reader;
     };
     begins = IsFields a t;
-    follows = λ k. not (sees_group Brace k) && not (sees_group Parenthesis k);
-    plain = λ x k. fields_plain x;
+    follows = λ k. true;
+    plain = fields_plain;
   }
 
   -- the parts of fields in braces fit, and of those in parentheses
@@ -142,18 +147,20 @@ module _ {A T : Type 0} (a : Fronting A) (t : Fronting T) where
     pub named : FieldFits
     pub unnamed : UnnamedFits
 
-abbrev pub assigned_fronts : {E : Type 0} → Expressions E → Fronts (Option (token.Eq × E))
-assigned_fronts exprs = options token.sees_eq (pairs (said (grammars.mark 11 1)) (said (discriminants.discriminant exprs)))
+abbrev pub assigned_fronts : {E : Type 0} → Expressions E → Fronts (Option (token.Equals × E))
+assigned_fronts exprs = maybes token.sees_equals (pairs (said (grammars.mark 11 1)) (said (discriminants.discriminant exprs)))
 
 module _ {A T E : Type 0} (a : Fronting A) (t : Fronting T) (exprs : Expressions E) where
-  abbrev pub assigned_plain : Option (token.Eq × E) → Toks → Type 0
-  assigned_plain None k = Unit {0}
+  -- where there is no discriminant, no `=` follows
+  abbrev pub assigned_plain : Option (token.Equals × E) → Toks → Type 0
+  assigned_plain None k = token.sees_equals k ≡ false
   assigned_plain (Some d) k = (discriminants.discriminant exprs).plain d.1 k
 
   -- each part is plain before what is printed behind it
   abbrev pub variant_plain : VariantOf A T E → Toks → Type 0
   variant_plain x k =
-      a.plain x.attrs (row (p.ident x.ident ++ (printing.fields a t x.fields ++ printing.assigned exprs.values.len x.discriminant)) k) × fields_plain a t x.fields × assigned_plain x.discriminant k
+      a.plain x.attrs (row (p.ident x.ident ++ (printing.fields a t x.fields ++ printing.assigned exprs.values.len x.discriminant)) k) ×
+      fields_plain a t x.fields (row (printing.assigned exprs.values.len x.discriminant) k) × assigned_plain x.discriminant k
 
   abbrev pub variant : Fronting (VariantOf A T E)
   variant = record {

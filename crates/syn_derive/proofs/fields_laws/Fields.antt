@@ -14,13 +14,13 @@ use Rattle.token_core.specs.fronts.Both.{ReadBoth, RefusedBoth}
 use Rattle.token_core.specs.fronts.Lists.{Joins}
 use Rattle.token_core.specs.laws.Seen.{mark_joins, name_seen, over, word_goes, word_seen}
 use Rattle.token_core.specs.laws.Steps.{link, next_refused, stopped, took_both}
-use Rattle.syn_derive.specs.declared.data.FieldOf.{FieldOf}
+use Rattle.syn_derive.specs.declared.fields.FieldOf.{FieldOf}
 use Rattle.syn_derive.specs.declared.vis.Visibility.{Visibility}
-use Rattle.syn_derive.specs.data.Promises as promises
-use Rattle.syn_derive.specs.data.Promises.{FieldFits, UnnamedFits}
-use Rattle.syn_derive.specs.data.Reading as reading
-use Rattle.syn_derive.specs.data.Spelling.{IsNamed, a_named_field, IsUnnamed, an_unnamed_field}
-use Rattle.syn_derive.specs.data.Trees.{named_of, unnamed_of}
+use Rattle.syn_derive.specs.fields.Promises as promises
+use Rattle.syn_derive.specs.fields.Promises.{FieldFits, UnnamedFits}
+use Rattle.syn_derive.specs.fields.Reading as reading
+use Rattle.syn_derive.specs.fields.Spelling.{IsNamed, a_named_field, IsUnnamed, an_unnamed_field}
+use Rattle.syn_derive.specs.fields.Trees.{named_of, unnamed_of}
 use Rattle.syn_derive.specs.fronts.Made.{Made, Parted}
 use Rattle.syn_derive.specs.vis.Promises.{visibility}
 use Rattle.syn_derive.specs.vis.Reading as vis_reading
@@ -47,8 +47,17 @@ module _ {A T : Type 0} (a : Fronting A) (t : Fronting T) where
   abbrev pub Parts : Type 0
   Parts = A × (Visibility × (Ident × (token.Colon × T)))
 
+  abbrev Typed : Fronting (token.Colon × T)
+  Typed = both.both colon t
+
+  abbrev Called : Fronting (Ident × (token.Colon × T))
+  Called = both.both grammars.ident Typed
+
+  abbrev Shown : Fronting (Visibility × (Ident × (token.Colon × T)))
+  Shown = both.both visibility Called
+
   abbrev Row : Fronting Parts
-  Row = both.both a (both.both visibility (both.both grammars.ident (both.both colon t)))
+  Row = both.both a Shown
 
   abbrev pub row_fronts : Fronts Parts
   row_fronts = both.pairs (said a) (both.pairs (said visibility) (both.pairs (said grammars.ident) (both.pairs (said colon) (said t))))
@@ -83,10 +92,10 @@ module _ {A T : Type 0} (a : Fronting A) (t : Fronting T) where
 
   reads : (s u : Stream) (x : Parts) → Row.grammar.reader s ≡ Ok (x, u) → Named.grammar.reader s ≡ Ok (to x, u)
   reads s u x e =
-      let f = took_both _ _ s u x e in
-      let g = took_both _ _ f.between u x.1 f.ends in
-      let h = took_both _ _ g.between u x.1.1 g.ends in
-      let i = took_both _ _ h.between u x.1.1.1 h.ends in
+      let f = took_both a.grammar.reader Shown.grammar.reader s u x e in
+      let g = took_both visibility.grammar.reader Called.grammar.reader f.between u x.1 f.ends in
+      let h = took_both grammars.ident.grammar.reader Typed.grammar.reader g.between u x.1.1 g.ends in
+      let i = took_both colon.grammar.reader t.grammar.reader h.between u x.1.1.1 h.ends in
       named_read s u x (record {
         between = f.between;
         begins = f.begins;
@@ -173,8 +182,8 @@ module _ {A T : Type 0} (a : Fronting A) (t : Fronting T) where
 
   short_reads : (s u : Stream) (x : Few) → Short.grammar.reader s ≡ Ok (x, u) → Unnamed.grammar.reader s ≡ Ok (of_few x, u)
   short_reads s u x e =
-      let f = took_both _ _ s u x e in
-      let g = took_both _ _ f.between u x.1 f.ends in
+      let f = took_both a.grammar.reader (both.both visibility t).grammar.reader s u x e in
+      let g = took_both visibility.grammar.reader t.grammar.reader f.between u x.1 f.ends in
       unnamed_read s u x (record { between = f.between; begins = f.begins; ends = g })
 
   short_parted : (clear : Bool) (b : FieldOf A T) (l k : Toks) → IsUnnamed a t clear b l k → Parted Short Unnamed of_few clear b l k

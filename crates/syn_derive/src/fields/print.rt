@@ -2,9 +2,9 @@
 
 ghost use Rattle.std.specs.Prelude.{◌≡◌, ◌++◌, OnErr, OnOk};
 ghost use Rattle.token_core.specs.Prints.{Appends};
-ghost use Rattle.syn_derive.specs.data.Printing as printing;
+ghost use Rattle.syn_derive.specs.fields.Printing as printing;
 
-use crate::data::{FieldOf, FieldsNamedOf, FieldsOf, FieldsUnnamedOf, VariantOf};
+use crate::fields::{FieldOf, FieldsNamedOf, FieldsOf, FieldsUnnamedOf, VariantOf};
 use item_small::part::Part;
 use std::alloc::{AllocError, Global};
 use syn_path::supplied::Value;

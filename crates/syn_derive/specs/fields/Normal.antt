@@ -1,13 +1,13 @@
 -- The normal form of fields and variants: that of each part.
 use Rattle.std.specs.Prelude.{map, option_map}
 use Rattle.token_core.specs.Fronted.{Fronting}
-use Rattle.syn_derive.specs.declared.data.FieldOf.{FieldOf}
-use Rattle.syn_derive.specs.declared.data.FieldsNamedOf.{FieldsNamedOf}
-use Rattle.syn_derive.specs.declared.data.FieldsOf.{FieldsOf}
-use Rattle.syn_derive.specs.declared.data.FieldsOf.TheVariants as f
-use Rattle.syn_derive.specs.declared.data.FieldsUnnamedOf.{FieldsUnnamedOf}
-use Rattle.syn_derive.specs.declared.data.VariantOf.{VariantOf}
-use Rattle.syn_derive.specs.data.Trees.{Listed, field_of, variant_of}
+use Rattle.syn_derive.specs.declared.fields.FieldOf.{FieldOf}
+use Rattle.syn_derive.specs.declared.fields.FieldsNamedOf.{FieldsNamedOf}
+use Rattle.syn_derive.specs.declared.fields.FieldsOf.{FieldsOf}
+use Rattle.syn_derive.specs.declared.fields.FieldsOf.TheVariants as f
+use Rattle.syn_derive.specs.declared.fields.FieldsUnnamedOf.{FieldsUnnamedOf}
+use Rattle.syn_derive.specs.declared.fields.VariantOf.{VariantOf}
+use Rattle.syn_derive.specs.fields.Trees.{Listed, field_of, variant_of}
 
 module _ {A T : Type 0} (a : Fronting A) (t : Fronting T) where
   abbrev pub field : FieldOf A T → FieldOf A T

@@ -6,13 +6,13 @@ use Rattle.token_core.specs.Loops.{terminated}
 use Rattle.token_core.specs.Names as names
 use Rattle.token_core.specs.Reads.{Reader, ◌>>=◌, ◌<$>◌, pure, peek, is_done, in_group, optional, sees_group}
 use Rattle.token_core.specs.Tokens as token
-use Rattle.syn_derive.specs.declared.data.FieldOf.{FieldOf}
-use Rattle.syn_derive.specs.declared.data.FieldsNamedOf.{FieldsNamedOf}
-use Rattle.syn_derive.specs.declared.data.FieldsOf.{FieldsOf}
-use Rattle.syn_derive.specs.declared.data.FieldsOf.TheVariants as f
-use Rattle.syn_derive.specs.declared.data.FieldsUnnamedOf.{FieldsUnnamedOf}
-use Rattle.syn_derive.specs.declared.data.VariantOf.{VariantOf}
-use Rattle.syn_derive.specs.data.Trees.{named_of, unnamed_of, variant_of}
+use Rattle.syn_derive.specs.declared.fields.FieldOf.{FieldOf}
+use Rattle.syn_derive.specs.declared.fields.FieldsNamedOf.{FieldsNamedOf}
+use Rattle.syn_derive.specs.declared.fields.FieldsOf.{FieldsOf}
+use Rattle.syn_derive.specs.declared.fields.FieldsOf.TheVariants as f
+use Rattle.syn_derive.specs.declared.fields.FieldsUnnamedOf.{FieldsUnnamedOf}
+use Rattle.syn_derive.specs.declared.fields.VariantOf.{VariantOf}
+use Rattle.syn_derive.specs.fields.Trees.{named_of, unnamed_of, variant_of}
 use Rattle.syn_derive.specs.discriminant.Reading.{discriminant}
 use Rattle.syn_derive.specs.vis.Reading.{visibility}
 
@@ -52,14 +52,14 @@ module _ {A T : Type 0} (a : Reader A) (t : Reader T) where
       if parens then f.Unnamed <$> unnamed_fields else pure f.Unit)
 
 -- `=` and a discriminant
-abbrev pub with_eq : {E : Type 0} → Reader E → Reader (token.Eq × E)
+abbrev pub with_eq : {E : Type 0} → Reader E → Reader (token.Equals × E)
 with_eq lens = do
-  q ← token.eq
+  q ← token.equals
   x ← discriminant lens
   pure (q, x)
 
-abbrev pub assigned : {E : Type 0} → Reader E → Reader (Option (token.Eq × E))
-assigned lens = optional token.sees_eq (with_eq lens)
+abbrev pub assigned : {E : Type 0} → Reader E → Reader (Option (token.Equals × E))
+assigned lens = optional token.sees_equals (with_eq lens)
 
 module _ {A T E : Type 0} (a : Reader A) (t : Reader T) (lens : Reader E) where
   unfoldable pub variant : Reader (VariantOf A T E)

@@ -15,16 +15,16 @@ use Rattle.token_core.specs.fronts.Lists.{listing, listings}
 use Rattle.token_core.specs.laws.Steps.{group_fails, group_gives, link, stopped}
 use Rattle.token_core.specs.laws.Takes.{named_takes}
 use Rattle.token_core.specs.laws.Turns.{turns_fail, turns_give}
-use Rattle.syn_derive.specs.declared.data.FieldOf.{FieldOf}
-use Rattle.syn_derive.specs.declared.data.FieldsNamedOf.{FieldsNamedOf}
-use Rattle.syn_derive.specs.declared.data.FieldsUnnamedOf.{FieldsUnnamedOf}
-use Rattle.syn_derive.specs.data.Promises as promises
-use Rattle.syn_derive.specs.data.Promises.{FieldFits, Goes, UnnamedFits}
-use Rattle.syn_derive.specs.data.Reading as reading
-use Rattle.syn_derive.specs.data.Spelling.{AreNamed, in_braces, AreUnnamed, in_parens}
-use Rattle.syn_derive.specs.data.Trees.{Listed}
+use Rattle.syn_derive.specs.declared.fields.FieldOf.{FieldOf}
+use Rattle.syn_derive.specs.declared.fields.FieldsNamedOf.{FieldsNamedOf}
+use Rattle.syn_derive.specs.declared.fields.FieldsUnnamedOf.{FieldsUnnamedOf}
+use Rattle.syn_derive.specs.fields.Promises as promises
+use Rattle.syn_derive.specs.fields.Promises.{FieldFits, Goes, UnnamedFits}
+use Rattle.syn_derive.specs.fields.Reading as reading
+use Rattle.syn_derive.specs.fields.Spelling.{AreNamed, in_braces, AreUnnamed, in_parens}
+use Rattle.syn_derive.specs.fields.Trees.{Listed}
 use Rattle.syn_derive.specs.fronts.Made.{Made, Parted}
-use Rattle.syn_derive.proofs.data_laws.Fields.{comma, named_joins, unnamed_joins}
+use Rattle.syn_derive.proofs.fields_laws.Fields.{comma, named_joins, unnamed_joins}
 use Rattle.syn_derive.proofs.fronts_laws.Made.{made_fronted, made_refused}
 
 same_marks : (cs : List token.Comma) → cs ≡ map (λ (c : token.Comma). c) cs
