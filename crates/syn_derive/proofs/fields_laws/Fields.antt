@@ -33,11 +33,11 @@ colon = grammars.mark 7 1
 abbrev pub comma : Fronting token.Comma
 comma = grammars.mark 4 1
 
-or_first : (a b : Bool) → a ≡ true → a || b ≡ true
+pub or_first : (a b : Bool) → a ≡ true → a || b ≡ true
 or_first true b h = refl
 or_first false b h = cc h
 
-or_second : (a b : Bool) → b ≡ true → a || b ≡ true
+pub or_second : (a b : Bool) → b ≡ true → a || b ≡ true
 or_second true b h = refl
 or_second false b h = h
 
@@ -115,9 +115,9 @@ module _ {A T : Type 0} (a : Fronting A) (t : Fronting T) where
       parted = parted;
       made = made;
       follows = fits.ends;
-      normal = λ x. refl;
-      print = λ x. refl;
-      plain = λ x k h. (h.0, (h.1, (tt, (tt, h.2))));
+      normal = λ _ _ _ _ _. refl;
+      print = λ _ _ _ _ _. refl;
+      plain = λ _ _ _ _ _ _ h. (h.0, (h.1, (tt, (tt, h.2))));
       reads = reads;
     }
 
@@ -198,9 +198,9 @@ module _ {A T : Type 0} (a : Fronting A) (t : Fronting T) where
       parted = short_parted;
       made = short_made;
       follows = fits.ends;
-      normal = λ x. refl;
-      print = λ x. refl;
-      plain = λ x k h. (h.0, (h.1, h.2));
+      normal = λ _ _ _ _ _. refl;
+      print = λ _ _ _ _ _. refl;
+      plain = λ _ _ _ _ _ _ h. (h.0, (h.1, h.2));
       reads = short_reads;
     }
 

@@ -27,7 +27,7 @@ use Rattle.syn_derive.specs.fronts.Made.{Made, Parted}
 use Rattle.syn_derive.proofs.fields_laws.Fields.{comma, named_joins, unnamed_joins}
 use Rattle.syn_derive.proofs.fronts_laws.Made.{made_fronted, made_refused}
 
-same_marks : (cs : List token.Comma) → cs ≡ map (λ (c : token.Comma). c) cs
+pub same_marks : (cs : List token.Comma) → cs ≡ map (λ (c : token.Comma). c) cs
 same_marks [] = refl
 same_marks (c ∷ cs) = ap (λ z. c ∷ z) (same_marks cs)
 
@@ -78,9 +78,9 @@ module _ {A T : Type 0} (a : Fronting A) (t : Fronting T) where
     parted = parted;
     made = made;
     follows = λ k o. refl;
-    normal = λ x. ap (λ z. named_of (x.0, (map Named.grammar.normal x.1.0, z))) (same_marks x.1.1);
-    print = λ x. refl;
-    plain = λ x k h. h;
+    normal = λ _ x _ _ _. ap (λ z. named_of (x.0, (map Named.grammar.normal x.1.0, z))) (same_marks x.1.1);
+    print = λ _ _ _ _ _. refl;
+    plain = λ _ _ _ _ _ _ h. h;
     reads = braces_read;
   }
 
@@ -136,9 +136,9 @@ module _ {A T : Type 0} (a : Fronting A) (t : Fronting T) where
     parted = parens_parted;
     made = parens_made;
     follows = λ k o. refl;
-    normal = λ x. ap (λ z. unnamed_of (x.0, (map Unnamed.grammar.normal x.1.0, z))) (same_marks x.1.1);
-    print = λ x. refl;
-    plain = λ x k h. h;
+    normal = λ _ x _ _ _. ap (λ z. unnamed_of (x.0, (map Unnamed.grammar.normal x.1.0, z))) (same_marks x.1.1);
+    print = λ _ _ _ _ _. refl;
+    plain = λ _ _ _ _ _ _ h. h;
     reads = parens_read;
   }
 

@@ -175,7 +175,7 @@ module _ {A T : Type 0} (a : Fronting A) (t : Fronting T) where
   plain (Some (inr x)) k h = h
 
   fields_made : Made Row Fields to
-  fields_made = record { parted = parted; made = made; follows = λ k o. refl; normal = normal; print = print; plain = plain; reads = reads }
+  fields_made = record { parted = parted; made = made; follows = λ k o. refl; normal = λ c x l k i. normal x; print = λ c x l k i. print x; plain = λ c x l r k i. plain x k; reads = reads }
 
   -- ---- what is promised
 
@@ -183,7 +183,7 @@ module _ {A T : Type 0} (a : Fronting A) (t : Fronting T) where
   kind_fronts = either.eithers (sees_group Brace) (given (FieldFits a t) Named) (given (UnnamedFits a t) Unnamed)
 
   kept : (s u : Stream) (r : Result Kind Refusal) → KeepsFront kind_fronts s r u → FieldsFit a t → Fronted Some_of s r u
-  kept s u r h fits = h ((fits.named, fits.unnamed), kinds)
+  kept s u r h fits = h (fits.named, (fits.unnamed, kinds))
 
   pub unit_kept : (s : Stream) → sees_group Brace s.rest ≡ false → sees_group Parenthesis s.rest ≡ false → FieldsFit a t → Fronted Fields s (Ok f.Unit) s
   unit_kept s w v fits = made_fronted Row Fields to fields_made s s None (maybe_laws.none_fronted sees Some_of s (or_none (sees_group Brace s.rest) (sees_group Parenthesis s.rest) w v))

@@ -1,19 +1,20 @@
 -- A variant: how it is read, and what is promised of it by what is promised of its parts.
-use Rattle.std.proofs.Common.{◌≡◌, Bool, true, false, Option, Some, None, option_map, Result, Ok, Err, refl, ◌∙◌, ap}
+use Rattle.std.proofs.Common.{◌≡◌, Bool, true, false, [], Option, Some, None, option_map, Result, Ok, Err, refl, ◌∙◌, ap}
 use Rattle.token_core.specs.declared.tree.Delimiter.TheVariants.{Brace, Parenthesis}
 use Rattle.token_core.specs.declared.tree.Ident.{Ident}
 use Rattle.token_core.specs.Fronted.{Fronting, Fronted, Fronts, KeepsFront, given, said}
 use Rattle.token_core.specs.Grammars as grammars
 use Rattle.token_core.specs.Names as names
-use Rattle.token_core.specs.Reads.{Fails, Gives}
+use Rattle.token_core.specs.Reads.{Fails, Gives, is_done, is_ident}
 use Rattle.token_core.specs.Refusal.{Refusal}
 use Rattle.token_core.specs.Stream.{Stream}
 use Rattle.token_core.specs.Tokens as token
-use Rattle.token_core.specs.Toks.{Toks}
+use Rattle.token_core.specs.Toks.{Toks, done}
 use Rattle.token_core.specs.fronts.Both as both
 use Rattle.token_core.specs.fronts.Both.{ReadBoth, RefusedBoth}
 use Rattle.token_core.specs.fronts.Options.{IsOptional, absent, present}
-use Rattle.token_core.specs.laws.Seen.{mark_seen, name_seen}
+use Rattle.token_core.specs.fronts.Lists.{Joins}
+use Rattle.token_core.specs.laws.Seen.{mark_joins, mark_seen, name_seen, over, word_goes}
 use Rattle.token_core.specs.laws.Steps.{chosen, link, next_refused, stopped, took_both}
 use Rattle.syn_path.specs.Traits.{Expressions}
 use Rattle.syn_derive.specs.declared.fields.FieldsOf.{FieldsOf}
@@ -27,6 +28,7 @@ use Rattle.syn_derive.specs.fields.Spelling.{IsVariant, a_variant, a_numbered_va
 use Rattle.syn_derive.specs.fields.Trees.{variant_of}
 use Rattle.syn_derive.specs.fronts.Made.{Made, Parted}
 use Rattle.syn_derive.specs.fronts.Maybe.{SeenAgain, maybe}
+use Rattle.syn_derive.proofs.fields_laws.Fields.{comma, or_first, or_second}
 use Rattle.syn_derive.proofs.fronts_laws.Made.{made_fronted, made_refused}
 use Rattle.syn_derive.proofs.fronts_laws.Maybe as maybe_laws
 
@@ -119,7 +121,7 @@ module _ {A T E : Type 0} (a : Fronting A) (t : Fronting T) (exprs : Expressions
       by_option (Some d) k h = (tt, h)
 
   variant_made : Made Row Variant to
-  variant_made = record { parted = parted; made = made; follows = λ k o. o; normal = normal; print = λ x. refl; plain = plain; reads = reads }
+  variant_made = record { parted = parted; made = made; follows = λ k o. o; normal = λ c x l k i. normal x; print = λ _ _ _ _ _. refl; plain = λ c x l r k i. plain x k; reads = reads }
     where
       normal : (x : Parts) → Variant.grammar.normal (to x) ≡ to (Row.grammar.normal x)
       normal x = ap (λ (d : Option (token.Equals × E)). variant_of (a.grammar.normal x.0) x.1.0 (Fields.grammar.normal x.1.1.0) d) (by_option x.1.1.1)
@@ -131,11 +133,21 @@ module _ {A T E : Type 0} (a : Fronting A) (t : Fronting T) (exprs : Expressions
   -- ---- what is promised
 
   module _ (fits : FieldsFit a t) where
-    row_fits : ((FieldsFit a t × ((SeenAgain token.sees_equals With × both.Fit equals Number) × both.Fit Fields Assigned)) × both.Fit grammars.ident (both.both Fields Assigned)) × both.Fit a (both.both grammars.ident (both.both Fields Assigned))
-    row_fits = (((fits, ((again, λ _ _ _ _ _ _. refl), λ _ _ _ _ _ _. refl)), λ _ _ _ _ _ _. refl), λ clear x l k i o. fits.named.name l (name_seen clear x.0 l i.0 i.1))
+    row_fits : ((FieldsFit a t × ((both.Fit equals Number × SeenAgain token.sees_equals With) × both.Fit Fields Assigned)) × both.Fit grammars.ident (both.both Fields Assigned)) × both.Fit a (both.both grammars.ident (both.both Fields Assigned))
+    row_fits = (((fits, ((λ _ _ _ _ _ _. refl, again), λ _ _ _ _ _ _. refl)), λ _ _ _ _ _ _. refl), λ clear x l k i o. fits.named.name l (name_seen clear x.0 l i.0 i.1))
 
   pub variant_kept : (s u : Stream) (x : Parts) → KeepsFront row_fronts s (Ok x) u → KeepsFront (given (FieldsFit a t) Variant) s (Ok (to x)) u
   variant_kept s u x h fits = made_fronted Row Variant to variant_made s u x (h (row_fits fits))
 
   pub variant_stopped : (s u : Stream) (e : Refusal) → KeepsFront row_fronts s (Err e) u → KeepsFront (given (FieldsFit a t) Variant) s (Err e) u
   variant_stopped s u e h fits = made_refused Row Variant to variant_made s u e (h (row_fits fits))
+
+  -- ---- in a list
+
+  module _ (fits : FieldsFit a t) where
+    variant_starts : (x : VariantOf A T E) (l k : Toks) → IsVariant a t Number true x l k → is_done l ≡ false
+    variant_starts x l k (a_variant {x = y} {i = i} {m = m} {n = n} h j w g) = fits.named.starts y l m h (word_goes is_ident m (name_seen true i m n j))
+    variant_starts x l k (a_numbered_variant {x = y} {i = i} {m = m} {n = n} h j w c d) = fits.named.starts y l m h (word_goes is_ident m (name_seen true i m n j))
+
+    pub variant_joins : Joins Variant comma
+    variant_joins = mark_joins Variant 4 1 44 [] refl refl (or_first (is_done done) (token.sees_comma done) over) (λ l h. or_second (is_done l) (token.sees_comma l) h) variant_starts

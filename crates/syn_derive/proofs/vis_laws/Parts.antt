@@ -273,4 +273,4 @@ plain (Some x) k h = by_option x.0 x.1 k h
     by_option p (Some x) k h = (tt, (inside x.1.0 _, tt))
 
 pub visible_made : Made Row promises.visibility to
-visible_made = record { parted = parted; made = made; follows = λ k o. follows k; normal = normal; print = print; plain = plain; reads = reads }
+visible_made = record { parted = parted; made = made; follows = λ k o. follows k; normal = λ c x l k i. normal x; print = λ c x l k i. print x; plain = λ c x l r k i. plain x k; reads = reads }

@@ -1,5 +1,5 @@
 -- What the readers of structs, enums and unions promise, by what those of their parts say of fronts.
-use Rattle.std.specs.Prelude.{◌≡◌, ◌||◌, Bool, true, ◌++◌, Option}
+use Rattle.std.specs.Prelude.{◌≡◌, ◌||◌, Bool, true, false, ◌++◌, Option}
 use Rattle.token_core.specs.declared.span.DelimSpan.{DelimSpan}
 use Rattle.token_core.specs.declared.tree.Delimiter.TheVariants.{Brace, Parenthesis}
 use Rattle.token_core.specs.Fronted.{Fronting, Fronts, said, given}
@@ -29,9 +29,10 @@ use Rattle.syn_derive.specs.input.Normal as normal
 use Rattle.syn_derive.specs.input.Printing as printing
 use Rattle.syn_derive.specs.input.Reading as reading
 use Rattle.syn_derive.specs.input.Spelling.{IsOpen, IsBody, IsDeclared, IsInput}
-use Rattle.syn_derive.specs.input.Trees.{Variants}
+use Rattle.syn_derive.specs.input.Trees.{Variants, declared_of}
 use Rattle.syn_derive.specs.part.Declared.{Joint}
 use Rattle.syn_derive.specs.vis.Printing as vis_printing
+use Rattle.syn_derive.specs.vis.Promises.{visibility_plain}
 
 -- braces or `;`, before which a where clause may stand
 abbrev pub ends_clause : Toks → Bool
@@ -56,16 +57,16 @@ module _ {A T : Type 0} (a : Fronting A) (t : Fronting T) where
       spells = λ clear x l. IsOpen a t clear x l done;
       normal = λ x. (fields_normal.fields a t x.0, x.1);
       print = λ x. fields_by x.1 x.0;
-      plain = λ x. fields_alone a t x.0;
+      plain = λ x. fields_alone x.0;
       reader = reading.body a.grammar.reader t.grammar.reader clause;
     };
     begins = IsOpen a t;
     follows = λ k. true;
-    plain = λ x k. fields_alone a t x.0;
+    plain = λ x k. fields_alone x.0;
   }
 
-  abbrev pub open_fronts : Bool → Fronts (FieldsOf A T × Option token.Semi)
-  open_fronts clause = given (FieldsFit a t) (opened clause)
+  abbrev pub opened_fronts : Bool → Fronts (FieldsOf A T × Option token.Semi)
+  opened_fronts clause = given (FieldsFit a t) (opened clause)
 
 module _ {W A T : Type 0} (w : Fronting W) (a : Fronting A) (t : Fronting T) where
   -- a where clause is plain before what is printed behind it
@@ -130,10 +131,13 @@ module _ {A G W T E : Type 0} (j : Joint G W) (a : Fronting A) (g : Fronting G) 
     plain = declared_plain;
   }
 
-  -- attributes are plain before what is printed behind them
+  abbrev pub declared_in : DeriveInputOf A G T E → DeclaredOf A G T E
+  declared_in x = declared_of x.ident x.generics x.«data»
+
+  -- each part is plain before what is printed behind it
   abbrev pub input_plain : DeriveInputOf A G T E → Toks → Type 0
   input_plain x k =
-      a.plain x.attrs (row (vis_printing.visibility x.vis ++ declared_print (record { ident = x.ident; generics = x.generics; «data» = x.«data» })) k) × declared_plain (record { ident = x.ident; generics = x.generics; «data» = x.«data» }) k
+      a.plain x.attrs (row (vis_printing.visibility x.vis ++ declared_print (declared_in x)) k) × visibility_plain x.vis (row (declared_print (declared_in x)) k) × declared_plain (declared_in x) k
 
   -- what may follow an input: anything
   abbrev pub input : Fronting (DeriveInputOf A G T E)

@@ -7,6 +7,8 @@ use Rattle.token_core.specs.Looks.{unmet_at}
 use Rattle.token_core.specs.Loops.{terminated}
 use Rattle.token_core.specs.Names as names
 use Rattle.token_core.specs.Reads.{Reader, ◌>>=◌, ◌<$>◌, pure, peek, expected, is_done, in_group, sees_group}
+use Rattle.token_core.specs.Refusal.{Refusal}
+use Rattle.token_core.specs.Stream.{Stream}
 use Rattle.token_core.specs.Tokens as token
 use Rattle.token_core.specs.Toks.{Bytes}
 use Rattle.syn_derive.specs.declared.fields.FieldsOf.{FieldsOf}
@@ -53,14 +55,20 @@ module _ {A T : Type 0} (a : Reader A) (t : Reader T) where
       ends ← peek token.sees_semi
       if ends then without_fields else (λ s. Err (expected (body_name clause) s)))
 
+-- a where clause and `;`
+unfoldable pub clause_end : {W : Type 0} → Reader W → Reader (W × token.Semi)
+clause_end w = do
+  clause ← peek token.sees_where
+  z ← w
+  q ← semi clause
+  pure (z, q)
+
 module _ {W A T : Type 0} (w : Reader W) (a : Reader A) (t : Reader T) where
   unfoldable pub tuple : Reader (BodyOf W A T)
   tuple = do
     v ← unnamed_fields a t
-    clause ← peek token.sees_where
-    z ← w
-    q ← semi clause
-    pure (body_of z (f.Unnamed v) (Some q))
+    z ← clause_end w
+    pure (body_of z.0 (f.Unnamed v) (Some z.1))
 
   unfoldable pub plain : Reader (BodyOf W A T)
   plain = do
@@ -78,6 +86,10 @@ module _ {W A T : Type 0} (w : Reader W) (a : Reader A) (t : Reader T) where
 module _ {A T E : Type 0} (a : Reader A) (t : Reader T) (lens : Reader E) where
   abbrev pub variants : Reader (DelimSpan × Variants A T E)
   variants = in_group Brace brace_name (terminated is_done (variant a t lens) token.comma)
+
+-- none of the three words is there
+abbrev pub no_input : Stream → Refusal
+no_input s = unmet_at (codes "`struct`" ∷ codes "`enum`" ∷ codes "`union`" ∷ []) s
 
 module _ {A G W T E : Type 0} (j : Joint G W) (a : Reader A) (g : Reader G) (w : Reader W) (t : Reader T) (lens : Reader E) where
   unfoldable pub a_struct : Reader (DeclaredOf A G T E)
@@ -114,7 +126,7 @@ module _ {A G W T E : Type 0} (j : Joint G W) (a : Reader A) (g : Reader G) (w :
       enums ← peek token.sees_enum
       if enums then an_enum else (do
         unions ← peek token.sees_union
-        if unions then a_union else (λ s. Err (unmet_at (codes "`struct`" ∷ codes "`enum`" ∷ codes "`union`" ∷ []) s))))
+        if unions then a_union else (λ s. Err (no_input s))))
 
   unfoldable pub input : Reader (DeriveInputOf A G T E)
   input = do

@@ -5,6 +5,7 @@ ghost use Rattle.token_core.specs.Fronted.{KeepsFront, said};
 ghost use Rattle.token_core.specs.Grammars as grammars;
 ghost use Rattle.token_core.specs.Reads.{Fails, Gives, Parses, sees_group};
 ghost use Rattle.token_core.specs.Tokens as token;
+ghost use Rattle.token_core.specs.fronts.Both as both;
 ghost use Rattle.token_core.specs.declared.tree.Delimiter.TheVariants as delimiter;
 ghost use Rattle.syn_derive.specs.input.Promises as promises;
 ghost use Rattle.syn_derive.specs.input.Reading as reading;
@@ -53,6 +54,39 @@ impl Parser for BySemi {
     }
 }
 
+/// A where clause and `;`, as a parser.
+#[derive(Drop)]
+pub struct ByEnd<W> {
+    of: PhantomData<W>,
+}
+
+impl<W> ByEnd<W> {
+    pub fn new() -> ByEnd<W>
+        ensures { result ≡ record { of = record {} } }
+    {
+        ByEnd { of: PhantomData }
+    }
+}
+
+impl<W: Part> Parser for ByEnd<W> {
+    type Output = (W, Semi);
+
+    ghost can_parse = { λ _. Unit {0} };
+
+    ghost reads = { λ _. Gives (reading.clause_end W.front.grammar.reader) };
+
+    ghost refuses = { λ _. Fails (reading.clause_end W.front.grammar.reader) };
+
+    ghost fronts = { λ _. both.pairs (said W.front) (said (grammars.mark 24 1)) };
+
+    #[tactic(auto, using(token_core::specs::Reads::no_promise))]
+    fn parse(self, alloc: Global, input: &mut ParseStream<'_>) -> Result<(W, Semi), Error> {
+        let clause = input.peek::<Where>();
+        let row = (ByPart::<W>::new(), BySemi { clause });
+        row.parse(alloc, input)
+    }
+}
+
 /// A struct's fields behind its where clause, as a parser: in braces, or none and `;`. Behind no where clause it names that too where
 /// it is refused, and parentheses.
 #[derive(Drop)]
@@ -83,7 +117,7 @@ impl<A: Part, T: Part> Parser for ByFields<A, T> {
 
     ghost refuses = { λ p. Fails (reading.body p.clause A.front.grammar.reader T.front.grammar.reader) };
 
-    ghost fronts = { λ p. promises.open_fronts A.front T.front p.clause };
+    ghost fronts = { λ p. promises.opened_fronts A.front T.front p.clause };
 
     #[tactic(auto, using(token_core::specs::Reads::no_promise, token_core::specs::laws::Follows::follows))]
     fn parse(
@@ -124,10 +158,11 @@ fn parse_tuple<W: Part, A: Part, T: Part>(
     ensures fronts { sees_group delimiter.Parenthesis input.old.rest ≡ true →
         KeepsFront (promises.body_fronts W.front A.front T.front) input.old result input.new }
 {
-    let unnamed = input.parse::<FieldsUnnamedOf<A, T>>(alloc)?;
-    let clause = input.peek::<Where>();
-    let end = (ByPart::<W>::new(), BySemi { clause });
-    let (where_clause, semi_token) = end.parse(alloc, input)?;
+    let row = (
+        ByParse::<FieldsUnnamedOf<A, T>>::new(),
+        ByEnd::<W>::new(),
+    );
+    let (unnamed, (where_clause, semi_token)) = row.parse(alloc, input)?;
     Ok(BodyOf {
         where_clause,
         fields: FieldsOf::Unnamed(unnamed),

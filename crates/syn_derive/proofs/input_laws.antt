@@ -1,0 +1,4 @@
+pub mod Bodies
+pub mod Declared
+pub mod Inputs
+pub mod Opened
