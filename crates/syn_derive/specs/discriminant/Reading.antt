@@ -11,11 +11,15 @@ use Rattle.token_core.specs.Stream.{Stream, started}
 use Rattle.token_core.specs.Tokens as token
 use Rattle.token_core.specs.Toks.{Toks}
 use Rattle.token_core.specs.Trees.{TokenStream, stream_of_trees, toks}
-use Rattle.syn_verbatim.specs.Reading.{tree}
+use Rattle.syn_verbatim.specs.Reading as verbatim
 
 -- a comma that stands in no further invisible group, or the end
 abbrev pub ends_discriminant : Toks → Bool
 ends_discriminant l = is_done l || (not (sees_invisible l) && token.sees_comma l)
+
+-- the tree at the front
+abbrev pub a_tree : Reader TokenTree
+a_tree = verbatim.tree
 
 -- so many trees at most, as long as none ends them
 abbrev pub trees_within : ℕ → Reader (List TokenTree)
@@ -23,7 +27,7 @@ trees_within zero = pure []
 trees_within (suc n) = do
   ends ← peek ends_discriminant
   if ends then pure [] else (do
-    x ← tree
+    x ← a_tree
     xs ← trees_within n
     pure (x ∷ xs))
 
