@@ -64,10 +64,7 @@ fn trees_before_comma(alloc: Global, input: &mut ParseStream<'_>) -> Result<Toke
 
 /// Reads what stands before the next comma outside groups, or up to the end, as the length of an array is read: it has to be all of
 /// it. Refusals at its end point at the comma, or at the end of the scope.
-pub fn parse_discriminant<E: Value>(
-    alloc: Global,
-    input: &mut ParseStream<'_>,
-) -> Result<E, Error>
+pub fn parse_discriminant<E: Value>(alloc: Global, input: &mut ParseStream<'_>) -> Result<E, Error>
     ensures parses { Parses (reading.discriminant E.reads.len) result input.old input.new }
 {
     let trees = trees_before_comma(alloc, input)?;

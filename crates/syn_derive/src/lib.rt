@@ -4,8 +4,8 @@
 //! printed over any parts (`fields`, `input`); what their parts are is said last (`inputs`).
 #![tactic(auto)]
 
-pub mod fields;
 pub mod discriminant;
+pub mod fields;
 pub mod head;
 pub mod input;
 pub mod inputs;

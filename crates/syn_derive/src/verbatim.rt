@@ -1,8 +1,7 @@
 //! The names over tokens in the place of expressions, without a parameter.
 
-use syn_verbatim::expr::VerbatimExpr;
-
 pub use crate::vis::{VisRestricted, Visibility};
+use syn_verbatim::expr::VerbatimExpr;
 
 /// A struct, an enum or a union, as a derive macro is given it.
 pub type DeriveInput = crate::DeriveInput<VerbatimExpr>;

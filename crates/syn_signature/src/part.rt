@@ -79,7 +79,10 @@ impl<X: Subtree> Piece for Pat<X> {
 impl<A: Attributes, E: Value> Piece for ReturnTypeOf<TypeOf<A, E>> {
     ghost front = { types.return_type A.Attributes E.Value Plus };
 
-    fn read(alloc: Global, input: &mut ParseStream<'_>) -> Result<ReturnTypeOf<TypeOf<A, E>>, Error> {
+    fn read(
+        alloc: Global,
+        input: &mut ParseStream<'_>,
+    ) -> Result<ReturnTypeOf<TypeOf<A, E>>, Error> {
         <ReturnTypeOf<TypeOf<A, E>> as Parse>::parse(alloc, input)
     }
 

@@ -47,10 +47,7 @@ impl<A: Attributes, E: Value, P: Piece> Parse for SignatureOver<A, E, P> {
 
     ghost refuses = { Fails (signatures.signature A.Attributes E.Value P.front) };
 
-    fn parse(
-        alloc: Global,
-        input: &mut ParseStream<'_>,
-    ) -> Result<SignatureOver<A, E, P>, Error>
+    fn parse(alloc: Global, input: &mut ParseStream<'_>) -> Result<SignatureOver<A, E, P>, Error>
         ensures reads { Reads (signatures.signature A.Attributes E.Value P.front input.old) result input.new }
         ensures within { Follows input.old input.new }
     {

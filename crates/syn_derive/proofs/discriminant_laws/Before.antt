@@ -86,6 +86,10 @@ or_second : (a b : Bool) → b ≡ true → a || b ≡ true
 or_second true b h = refl
 or_second false b h = h
 
+split_mark : (p : Punct) (k : Toks) (b : Bool) → (p.ch == token.comma_char) ≡ b → Split k → Split (mark p k)
+split_mark p k true e h = record { first = done; rest = mark p k; is = no_token; ends = or_second (is_done (mark p k)) (token.sees_comma (mark p k)) (a_comma p k e) }
+split_mark p k false e h = record { first = mark p h.first; rest = h.rest; is = a_mark e h.is; ends = h.ends }
+
 end_ends : follows_discriminant done ≡ true
 unfolding is_done
 end_ends = refl
@@ -93,36 +97,32 @@ end_ends = refl
 pub split : (l : Toks) → Visible l → Split l
 split done v = record { first = done; rest = done; is = no_token; ends = end_ends }
 split (word i k) v = let h = split k v in record { first = word i h.first; rest = h.rest; is = a_word h.is; ends = h.ends }
-split (mark p k) v = by_test (p.ch == token.comma_char) refl
-  where
-    by_test : (b : Bool) → (p.ch == token.comma_char) ≡ b → Split (mark p k)
-    by_test true e = record { first = done; rest = mark p k; is = no_token; ends = or_second (is_done (mark p k)) (token.sees_comma (mark p k)) (a_comma p k e) }
-    by_test false e = let h = split k v in record { first = mark p h.first; rest = h.rest; is = a_mark e h.is; ends = h.ends }
+split (mark p k) v = split_mark p k (p.ch == token.comma_char) refl (split k v)
 split (lit x k) v = let h = split k v in record { first = lit x h.first; rest = h.rest; is = a_literal h.is; ends = h.ends }
 split (group d p c k) v = let h = split k v.2 in record { first = group d p c h.first; rest = h.rest; is = a_group h.is; ends = h.ends }
 split (enter p k) v = absurd v
 split (leave k) v = absurd v
 
 pub first_visible : (c l r : Toks) → IsBefore c l r → Visible l → Visible c
-first_visible done l r no_token v = tt
-first_visible (word i c) (word i l) r (a_word h) v = first_visible c l r h v
-first_visible (mark p c) (mark p l) r (a_mark e h) v = first_visible c l r h v
-first_visible (lit x c) (lit x l) r (a_literal h) v = first_visible c l r h v
-first_visible (group d p k c) (group d p k l) r (a_group h) v = (v.0, v.1, first_visible c l r h v.2)
+first_visible c l r no_token v = tt
+first_visible c l r (a_word {c = d} {l = m} h) v = first_visible d m r h v
+first_visible c l r (a_mark {c = d} {l = m} e h) v = first_visible d m r h v
+first_visible c l r (a_literal {c = d} {l = m} h) v = first_visible d m r h v
+first_visible c l r (a_group {c = d} {l = m} h) v = (v.0, v.1, first_visible d m r h v.2)
 
 pub rest_visible : (c l r : Toks) → IsBefore c l r → Visible l → Visible r
-rest_visible done l r no_token v = v
-rest_visible (word i c) (word i l) r (a_word h) v = rest_visible c l r h v
-rest_visible (mark p c) (mark p l) r (a_mark e h) v = rest_visible c l r h v
-rest_visible (lit x c) (lit x l) r (a_literal h) v = rest_visible c l r h v
-rest_visible (group d p k c) (group d p k l) r (a_group h) v = rest_visible c l r h v.2
+rest_visible c l r no_token v = v
+rest_visible c l r (a_word {c = d} {l = m} h) v = rest_visible d m r h v
+rest_visible c l r (a_mark {c = d} {l = m} e h) v = rest_visible d m r h v
+rest_visible c l r (a_literal {c = d} {l = m} h) v = rest_visible d m r h v
+rest_visible c l r (a_group {c = d} {l = m} h) v = rest_visible d m r h v.2
 
 pub all_visible : (c l r : Toks) → IsBefore c l r → Visible c → Visible r → Visible l
-all_visible done l r no_token v w = w
-all_visible (word i c) (word i l) r (a_word h) v w = all_visible c l r h v w
-all_visible (mark p c) (mark p l) r (a_mark e h) v w = all_visible c l r h v w
-all_visible (lit x c) (lit x l) r (a_literal h) v w = all_visible c l r h v w
-all_visible (group d p k c) (group d p k l) r (a_group h) v w = (v.0, v.1, all_visible c l r h v.2 w)
+all_visible c l r no_token v w = w
+all_visible c l r (a_word {c = d} {l = m} h) v w = all_visible d m r h v w
+all_visible c l r (a_mark {c = d} {l = m} e h) v w = all_visible d m r h v w
+all_visible c l r (a_literal {c = d} {l = m} h) v w = all_visible d m r h v w
+all_visible c l r (a_group {c = d} {l = m} h) v w = (v.0, v.1, all_visible d m r h v.2 w)
 
 -- ---- how they are read
 
@@ -153,21 +153,22 @@ module _ (each : OneByOne) where
   none (suc n) s r e v o = record { found = []; after = s; reads = chosen (ends_discriminant s.rest) true _ _ s _ (ap ends_discriminant e ∙ ends_at r v o) refl; holds = refl; rest = e; left = refl }
 
   pub read_before : (n : ℕ) (c l r : Toks) (s : Stream) → IsBefore c l r → s.rest ≡ l → Visible l → size l ≤ n → follows_discriminant r ≡ true → ReadBefore n s c r
-  read_before n done l r s no_token e v m o = none n s r e v o
-  read_before zero (word i c) (word i l) r s (a_word h) e v m o = absurd (omega (arith, m))
-  read_before (suc n) (word i c) (word i l) r s (a_word h) e v m o =
-      let w = each.at_word s i l e in
-      more n s (t.Ident i) l c (word i c) r (ap ends_discriminant e ∙ word_goes_on i l) w (read_before n c l r w.after h w.rest v (omega (arith, m)) o) (tree-ident i c) (λ xs q. put (t.Ident i) xs c q)
-  read_before zero (mark p c) (mark p l) r s (a_mark g h) e v m o = absurd (omega (arith, m))
-  read_before (suc n) (mark p c) (mark p l) r s (a_mark g h) e v m o =
-      let w = each.at_mark s p l e in
-      more n s (t.Punct p) l c (mark p c) r (ap ends_discriminant e ∙ mark_goes_on p l g) w (read_before n c l r w.after h w.rest v (omega (arith, m)) o) (tree-punct p c) (λ xs q. put (t.Punct p) xs c q)
-  read_before zero (lit x c) (lit x l) r s (a_literal h) e v m o = absurd (omega (arith, m))
-  read_before (suc n) (lit x c) (lit x l) r s (a_literal h) e v m o =
-      let w = each.at_literal s x l e in
-      more n s (t.Literal x) l c (lit x c) r (ap ends_discriminant e ∙ literal_goes_on x l) w (read_before n c l r w.after h w.rest v (omega (arith, m)) o) (tree-literal x c) (λ xs q. put (t.Literal x) xs c q)
-  read_before zero (group d p k c) (group d p k l) r s (a_group h) e v m o = absurd (omega (arith, m))
-  read_before (suc n) (group d p k c) (group d p k l) r s (a_group h) e v m o =
-      let w = each.at_group s d p k l e v.0 in
-      let x : TokenTree = t.Group (group_of d (stream_of k) p) in
-      more n s x l c (group d p k c) r (ap ends_discriminant e ∙ group_goes_on d p k l) w (read_before n c l r w.after h w.rest v.2 (omega (arith, m)) o) (visible-tree d (stream_of k) p c v.0 ∙ ap (λ z. group d p z c) (toks-stream_of k v.1)) (λ xs q. put x xs c q)
+  read_before n c l r s no_token e v m o = none n s r e v o
+  read_before zero c l r s (a_word h) e v m o = absurd (omega (arith, m))
+  read_before (suc n) c l r s (a_word {i = i} {c = d} {l = k} h) e v m o =
+      let w = each.at_word s i k e in
+      more n s (t.Ident i) k d (word i d) r (ap ends_discriminant e ∙ word_goes_on i k) w (read_before n d k r w.after h w.rest v (omega (arith, m)) o) (tree-ident i d) (λ xs q. put (t.Ident i) xs d q)
+  read_before zero c l r s (a_mark g h) e v m o = absurd (omega (arith, m))
+  read_before (suc n) c l r s (a_mark {p = p} {c = d} {l = k} g h) e v m o =
+      let w = each.at_mark s p k e in
+      more n s (t.Punct p) k d (mark p d) r (ap ends_discriminant e ∙ mark_goes_on p k g) w (read_before n d k r w.after h w.rest v (omega (arith, m)) o) (tree-punct p d) (λ xs q. put (t.Punct p) xs d q)
+  read_before zero c l r s (a_literal h) e v m o = absurd (omega (arith, m))
+  read_before (suc n) c l r s (a_literal {x = x} {c = d} {l = k} h) e v m o =
+      let w = each.at_literal s x k e in
+      more n s (t.Literal x) k d (lit x d) r (ap ends_discriminant e ∙ literal_goes_on x k) w (read_before n d k r w.after h w.rest v (omega (arith, m)) o) (tree-literal x d) (λ xs q. put (t.Literal x) xs d q)
+  read_before zero c l r s (a_group h) e v m o = absurd (omega (arith, m))
+  read_before (suc n) c l r s (a_group {d = b} {s = p} {k = i} {c = d} {l = k} h) e v m o =
+      let w = each.at_group s b p i k e v.0 in
+      let x : TokenTree = t.Group (group_of b (stream_of i) p) in
+      more n s x k d (group b p i d) r (ap ends_discriminant e ∙ group_goes_on b p i k) w (read_before n d k r w.after h w.rest v.2 (omega (arith, m)) o)
+      (visible-tree b (stream_of i) p d v.0 ∙ ap (λ z. group b p z d) (toks-stream_of i v.1)) (λ xs q. put x xs d q)

@@ -7,8 +7,8 @@ ghost use Rattle.syn_derive.specs.fields.Promises as promises;
 ghost use Rattle.syn_derive.specs.fields.Promises.{FieldFits, FieldsFit, Goes, UnnamedFits};
 ghost use Rattle.syn_derive.specs.fields.Reading as reading;
 
-use crate::fields::{FieldOf, FieldsNamedOf, FieldsOf, FieldsUnnamedOf, VariantOf};
 use crate::discriminant::ByDiscriminant;
+use crate::fields::{FieldOf, FieldsNamedOf, FieldsOf, FieldsUnnamedOf, VariantOf};
 use crate::lists::ByTerminatedWith;
 use crate::vis::Visibility;
 use item_small::part::{ByPart, Part};
@@ -16,16 +16,11 @@ use std::alloc::{AllocError, Global};
 use std::marker::PhantomData;
 use syn_path::supplied::Value;
 use token_core::token::{Brace, Colon, Comma, Eq, Paren};
-use token_core::{
-    ByParse, Delimiter, Error, Ident, Parse, ParseStream, Parser, Token,
-};
+use token_core::{ByParse, Delimiter, Error, Ident, Parse, ParseStream, Parser, Token};
 
 impl<A: Part, T: Part> FieldOf<A, T> {
     /// Reads a field in braces: attributes, its visibility, a name, `:` and a type. It is refused where one of them is.
-    pub fn parse_named(
-        alloc: Global,
-        input: &mut ParseStream<'_>,
-    ) -> Result<FieldOf<A, T>, Error>
+    pub fn parse_named(alloc: Global, input: &mut ParseStream<'_>) -> Result<FieldOf<A, T>, Error>
         ensures parses { Parses (reading.named_field A.front.grammar.reader T.front.grammar.reader)
             result input.old input.new }
         ensures fronts { KeepsFront (given (FieldFits A.front T.front) (promises.named_field A.front T.front))
@@ -48,10 +43,7 @@ impl<A: Part, T: Part> FieldOf<A, T> {
     }
 
     /// Reads a field in parentheses: attributes, its visibility and a type. It is refused where one of them is.
-    pub fn parse_unnamed(
-        alloc: Global,
-        input: &mut ParseStream<'_>,
-    ) -> Result<FieldOf<A, T>, Error>
+    pub fn parse_unnamed(alloc: Global, input: &mut ParseStream<'_>) -> Result<FieldOf<A, T>, Error>
         ensures parses { Parses (reading.unnamed_field A.front.grammar.reader T.front.grammar.reader)
             result input.old input.new }
         ensures fronts { KeepsFront (given (UnnamedFits A.front T.front) (promises.unnamed_field A.front T.front))
@@ -184,7 +176,12 @@ impl<A: Part, T: Part> Parse for FieldsUnnamedOf<A, T> {
     #[tactic(auto, using(token_core::specs::Reads::no_promise))]
     fn parse(alloc: Global, input: &mut ParseStream<'_>) -> Result<FieldsUnnamedOf<A, T>, Error> {
         let list = ByTerminatedWith::<_, Comma>::new(ByUnnamed::<A, T>::new());
-        let (span, unnamed) = input.read_group(alloc, Delimiter::Parenthesis, Paren::display(), list)?;
+        let (span, unnamed) = input.read_group(
+            alloc,
+            Delimiter::Parenthesis,
+            Paren::display(),
+            list,
+        )?;
         Ok(FieldsUnnamedOf {
             paren_token: Paren { span },
             unnamed,
@@ -240,11 +237,7 @@ impl<E: Value> Parser for ByAssigned<E> {
     ghost fronts = { λ _. promises.assigned_fronts E.Value };
 
     #[tactic(auto, using(token_core::specs::Reads::no_promise, token_core::specs::laws::Follows::follows))]
-    fn parse(
-        self,
-        alloc: Global,
-        input: &mut ParseStream<'_>,
-    ) -> Result<Option<(Eq, E)>, Error> {
+    fn parse(self, alloc: Global, input: &mut ParseStream<'_>) -> Result<Option<(Eq, E)>, Error> {
         if !input.peek::<Eq>() {
             return Ok(None);
         }
@@ -270,10 +263,7 @@ impl<A: Part, T: Part, E: Value> Parse for VariantOf<A, T, E> {
 
     #[tactic(auto, using(token_core::specs::Reads::no_promise))]
     fn parse(alloc: Global, input: &mut ParseStream<'_>) -> Result<VariantOf<A, T, E>, Error> {
-        let held = (
-            ByParse::<FieldsOf<A, T>>::new(),
-            ByAssigned::<E>::new(),
-        );
+        let held = (ByParse::<FieldsOf<A, T>>::new(), ByAssigned::<E>::new());
         let row = (ByPart::<A>::new(), (ByParse::<Ident>::new(), held));
         let (attrs, (ident, (fields, discriminant))) = row.parse(alloc, input)?;
         Ok(VariantOf {

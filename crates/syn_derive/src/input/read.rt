@@ -158,10 +158,7 @@ fn parse_tuple<W: Part, A: Part, T: Part>(
     ensures fronts { sees_group delimiter.Parenthesis input.old.rest ≡ true →
         KeepsFront (promises.body_fronts W.front A.front T.front) input.old result input.new }
 {
-    let row = (
-        ByParse::<FieldsUnnamedOf<A, T>>::new(),
-        ByEnd::<W>::new(),
-    );
+    let row = (ByParse::<FieldsUnnamedOf<A, T>>::new(), ByEnd::<W>::new());
     let (unnamed, (where_clause, semi_token)) = row.parse(alloc, input)?;
     Ok(BodyOf {
         where_clause,
@@ -266,16 +263,13 @@ fn parse_struct<A: Part, G: Declared, T: Part, E: Value>(
         G.Clause.front.grammar.reader T.front.grammar.reader E.reads.len) result input.old input.new }
     ensures fronts { token.sees_struct input.old.rest ≡ true →
         KeepsFront (promises.declared_fronts G.joint A.front G.front G.Clause.front T.front E.Value)
-            input.old result input.new }
+        input.old result input.new }
 {
     let body = (
         ByPart::<G>::new(),
         ByParse::<BodyOf<G::Clause, A, T>>::new(),
     );
-    let row = (
-        ByParse::<Struct>::new(),
-        (ByParse::<Ident>::new(), body),
-    );
+    let row = (ByParse::<Struct>::new(), (ByParse::<Ident>::new(), body));
     let (struct_token, (ident, (generics, body))) = row.parse(alloc, input)?;
     let generics = generics.with_clause(body.where_clause);
     let data = DataOf::Struct(DataStructOf {
@@ -298,12 +292,9 @@ fn parse_enum<A: Part, G: Declared, T: Part, E: Value>(
         G.Clause.front.grammar.reader T.front.grammar.reader E.reads.len) result input.old input.new }
     ensures fronts { token.sees_enum input.old.rest ≡ true →
         KeepsFront (promises.declared_fronts G.joint A.front G.front G.Clause.front T.front E.Value)
-            input.old result input.new }
+        input.old result input.new }
 {
-    let body = (
-        ByPart::<G::Clause>::new(),
-        ByVariants::<A, T, E>::new(),
-    );
+    let body = (ByPart::<G::Clause>::new(), ByVariants::<A, T, E>::new());
     let named = (ByParse::<Ident>::new(), (ByPart::<G>::new(), body));
     let row = (ByParse::<Enum>::new(), named);
     let (enum_token, (ident, (generics, (where_clause, (span, variants))))) = row.parse(
@@ -330,7 +321,7 @@ fn parse_union<A: Part, G: Declared, T: Part, E: Value>(
         G.Clause.front.grammar.reader T.front.grammar.reader E.reads.len) result input.old input.new }
     ensures fronts { token.sees_union input.old.rest ≡ true →
         KeepsFront (promises.declared_fronts G.joint A.front G.front G.Clause.front T.front E.Value)
-            input.old result input.new }
+        input.old result input.new }
 {
     let body = (
         ByPart::<G::Clause>::new(),
@@ -362,10 +353,7 @@ impl<A: Part, G: Declared, T: Part, E: Value> Parse for DeclaredOf<A, G, T, E> {
     ghost fronts = { promises.declared_fronts G.joint A.front G.front G.Clause.front T.front E.Value };
 
     #[tactic(auto, using(token_core::specs::Reads::no_promise, token_core::specs::laws::Follows::follows))]
-    fn parse(
-        alloc: Global,
-        input: &mut ParseStream<'_>,
-    ) -> Result<DeclaredOf<A, G, T, E>, Error> {
+    fn parse(alloc: Global, input: &mut ParseStream<'_>) -> Result<DeclaredOf<A, G, T, E>, Error> {
         let mut lookahead = input.lookahead1();
         if lookahead.peek::<Struct>() {
             return parse_struct(alloc, input);

@@ -124,7 +124,8 @@ impl<A: Attributes, P: Piece, T: Part, G: Declared, R: Piece> SignatureOf<A, P, 
     }
 }
 
-impl<A: Attributes, P: Piece, T: Part, G: Declared, R: Piece> ToTokens for SignatureOf<A, P, T, G, R> {
+impl<A: Attributes, P: Piece, T: Part, G: Declared, R: Piece> ToTokens
+    for SignatureOf<A, P, T, G, R> {
     ghost print = { printing.signature G.joint A.shown P.front T.front G.front G.Clause.front R.front };
 
     #[tactic(auto, using(token_core::specs::laws::Prints::puts))]

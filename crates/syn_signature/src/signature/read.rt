@@ -229,11 +229,7 @@ impl<A: Attributes, P: Piece, T: Part> Parser for ByInputs<A, P, T> {
     ghost refuses = { λ _. Fails (reading.inputs A.reads P.front.grammar.reader T.front.grammar.reader) };
 
     #[tactic(auto, using(token_core::specs::Reads::no_promise, token_core::specs::laws::Follows::follows))]
-    fn parse(
-        self,
-        alloc: Global,
-        input: &mut ParseStream<'_>,
-    ) -> Result<InputsOf<A, P, T>, Error> {
+    fn parse(self, alloc: Global, input: &mut ParseStream<'_>) -> Result<InputsOf<A, P, T>, Error> {
         let mut inputs = Punctuated::new(alloc);
         let mut variadic = None;
         'turn: while !input.is_empty() {
@@ -274,10 +270,7 @@ fn parse_head<G: Declared>(alloc: Global, input: &mut ParseStream<'_>) -> Result
     ensures parses { Parses (reading.head G.front.grammar.reader) result input.old input.new }
 {
     let named = (ByParse::<Ident>::new(), ByPart::<G>::new());
-    let declared = (
-        ByPiece::<Option<Abi>>::new(),
-        (ByParse::<Fn>::new(), named),
-    );
+    let declared = (ByPiece::<Option<Abi>>::new(), (ByParse::<Fn>::new(), named));
     let words = (
         ByOption::<Async>::new(),
         (ByOption::<Unsafe>::new(), declared),
