@@ -1,2 +1,3 @@
 pub mod Before
 pub mod Laws
+pub mod Trees
