@@ -26,7 +26,7 @@ use Rattle.syn_ty.specs.generics.Bounds.{IsFor}
 use Rattle.syn_ty.specs.path.Spelling.{is_segment_word, IsNoTry}
 use Rattle.syn_ty.specs.ty.Functions.{IsFnPtr}
 use Rattle.syn_ty.specs.ty.Objects.{AreObjectBounds, AreBareBounds, IsDyn, IsImpl}
-use Rattle.syn_ty.specs.ty.Parts.{Manner, is_clear, End, closed, Parts, IsVerbatim}
+use Rattle.syn_ty.specs.ty.Parts.{Manner, is_clear, dropped, End, closed, Parts, IsVerbatim}
 use Rattle.syn_ty.specs.ty.Reading.{last_place}
 use Rattle.syn_ty.specs.ty.Spelling.{IsOptional, IsInfer, IsNever}
 use Rattle.syn_ty.specs.ty.Trees.{BoundLifetimes, Path, QSelf, TypeArray, TypeFnPtr, TypeImplTrait, TypeParamBound, TypeParen, TypePtr, TypeReference, TypeSlice, TypeTraitObject, TypeTree, TypeTuple}
@@ -104,7 +104,7 @@ module _ {A E : Type 0} (part : Manner → Parts A E) (how : Manner) (place : Ty
     a_path_type : {o : Option (QSelf A E)} {p : Path A E} {l r : Toks} → IsNoTry part how AsWritten o p l r → IsType closed (v.Path (qualified_with [] o p)) l r
     a_macro : {x : Macro} {l r : Toks} → IsTypeCall (is_clear how) x l r → IsType closed (v.Macro (macro_type_of x)) l r
     -- a binder before a call is dropped, where the path has no leading `::`
-    a_bound_macro : {b : BoundLifetimes A E} {x : Macro} {l m r : Toks} → IsFor part how b l m → IsTypeCall (is_clear how) x m r → token.sees_path_sep m ≡ false → IsType closed (v.Macro (macro_type_of x)) l r
+    a_bound_macro : {b : BoundLifetimes A E} {x : Macro} {l m r : Toks} → IsFor part (dropped how) b l m → IsTypeCall (is_clear how) x m r → token.sees_path_sep m ≡ false → IsType closed (v.Macro (macro_type_of x)) l r
     an_object_with_dyn : {e : End} {x : TypeTraitObject A E} {l r : Toks} → IsDyn part how place e x l r → IsType e (v.TraitObject x) l r
     an_object_without_dyn : {e : End} {w : Many (TypeParamBound A E) token.Plus} {l r : Toks} → AreBareBounds part how place e w l r → IsType e (v.TraitObject (trait_object_with [] None w)) l r
     an_impl_type : {e : End} {x : TypeImplTrait A E} {l r : Toks} → IsImpl part how place e x l r → IsType e (v.ImplTrait x) l r

@@ -25,6 +25,12 @@ is_clear loosely = false
 is_clear plainly = false
 is_clear clearly = true
 
+-- what a form drops: of what that holds verbatim nothing is asked where the form is told plainly
+abbrev pub dropped : Manner → Manner
+dropped loosely = loosely
+dropped plainly = loosely
+dropped clearly = clearly
+
 -- ---- how a spelling ends
 
 -- Open: a list of bounds ends there, with a bound, that a `+` would go on with. In a plus: the last token is the `+` after the last bound of a list.

@@ -1,0 +1,10 @@
+pub mod Bounds
+pub mod Generics
+pub mod Held
+pub mod Knot
+pub mod Parts
+pub mod PatHeld
+pub mod Paths
+pub mod Pats
+pub mod Readers
+pub mod Types

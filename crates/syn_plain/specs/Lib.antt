@@ -1,0 +1,4 @@
+pub mod Clear
+pub mod Pats
+pub mod Plain
+pub mod held

@@ -1,0 +1,3 @@
+pub mod Generics
+pub mod Pats
+pub mod Types
