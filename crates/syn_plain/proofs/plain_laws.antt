@@ -7,4 +7,5 @@ pub mod PatHeld
 pub mod Paths
 pub mod Pats
 pub mod Readers
+pub mod Some
 pub mod Types

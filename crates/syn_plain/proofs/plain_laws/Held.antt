@@ -42,6 +42,7 @@ use Rattle.syn_ty.specs.path.Paths.{assoc_type_of, assoc_const_of, constraint_of
 use Rattle.syn_ty.specs.ty.Trees.{Family, Layer, TypeParam, ConstParam, BoundLifetimes, TypeParamBound, TraitBound, PathArguments, Path, PathSegment, GenericParam, GenericArgument, AngleBracketed, Parenthesized, AssocType, AssocConst, Constraint, TypeTree, QSelf, TypeArray, TypeFnPtr, TypeGroup, TypeImplTrait, TypeParen, TypePath, TypePtr, TypeReference, TypeSlice, TypeTraitObject, TypeTuple, NamedArg, ReturnType}
 use Rattle.syn_ty.specs.ty.Types.{Comma, Plus, fn_ptr_with, qualified_with}
 use Rattle.syn_plain.specs.held.Types.{Held, Over, within, output_by, qself_by, default_by, inputs_by, parenthesized_by, binder_by, generics_by, path_by, param_step, bound_step, argument_step, arguments_step, ty_step, trait_bound_step, type_param_step, assoc_type_step, constraint_step, fn_ptr_step, path_type_step, param, bound, argument, arguments, ty, trait_bound, type_param, assoc_type, constraint, fn_ptr, path_type, path, qself, inputs, output, parenthesized, angle, generics, binder}
+use Rattle.syn_plain.proofs.plain_laws.Some.{some_append}
 
 -- what the elements of a list hold that was mapped
 pub each_map : {T U B : Type 0} (f : U → List B) (g : T → U) (l : List T) → each f (map g l) ≡ each (λ x. f (g x)) l
@@ -118,15 +119,6 @@ module _ {A E : Type 0} where
   pub in-ImplTrait : (x : TypeImplTrait A E) → ty {A = A} {E = E} (v.ImplTrait x) ≡ each bound x.bounds.0
   in-ImplTrait x = ap ty (sym (v.rolls-ImplTrait x)) ∙ by_ty (o.ImplTrait x) ∙ each_map within bound x.bounds.0
 
-  pub in-Infer : (x : TypeInferOf A) → ty {A = A} {E = E} (v.Infer x) ≡ []
-  in-Infer x = ap ty (sym (v.rolls-Infer x)) ∙ by_ty (o.Infer x)
-
-  pub in-Macro : (x : TypeMacroOf A) → ty {A = A} {E = E} (v.Macro x) ≡ []
-  in-Macro x = ap ty (sym (v.rolls-Macro x)) ∙ by_ty (o.Macro x)
-
-  pub in-Never : (x : TypeNeverOf A) → ty {A = A} {E = E} (v.Never x) ≡ []
-  in-Never x = ap ty (sym (v.rolls-Never x)) ∙ by_ty (o.Never x)
-
   pub in-Paren : (x : TypeParen A E) → ty {A = A} {E = E} (v.Paren x) ≡ ty x.elem
   in-Paren x = ap ty (sym (v.rolls-Paren x)) ∙ by_ty (o.Paren x)
 
@@ -147,9 +139,6 @@ module _ {A E : Type 0} where
 
   pub in-Tuple : (x : TypeTuple A E) → ty {A = A} {E = E} (v.Tuple x) ≡ each ty x.elems.0
   in-Tuple x = ap ty (sym (v.rolls-Tuple x)) ∙ by_ty (o.Tuple x) ∙ each_map within ty x.elems.0
-
-  pub in-Verbatim : (x : TokenStream) → ty {A = A} {E = E} (v.Verbatim x) ≡ x ∷ []
-  in-Verbatim x = ap ty (sym (v.rolls-Verbatim x)) ∙ by_ty (o.TypeOf::Verbatim x)
 
   -- ---- parts of trees
 
@@ -186,9 +175,6 @@ module _ {A E : Type 0} where
 
   -- ---- bounds and parameters
 
-  pub in-param-Lifetime : (x : LifetimeParamOf A) → param {A = A} {E = E} (g.Lifetime x) ≡ []
-  in-param-Lifetime x = ap param (sym (g.rolls-Lifetime x)) ∙ by_param (o.GenericParamOf::Lifetime x)
-
   pub in-param-Type : (x : TypeParam A E) → param (g.«Type» x) ≡ type_param x
   in-param-Type x = ap param (sym (g.rolls-Type x)) ∙ by_param (o.GenericParamOf::Type x)
 
@@ -205,15 +191,6 @@ module _ {A E : Type 0} where
   pub in-bound-Trait : (x : TraitBound A E) → bound (b.Trait x) ≡ trait_bound x
   in-bound-Trait x = ap bound (sym (b.rolls-Trait x)) ∙ by_bound (o.Trait x)
 
-  pub in-bound-Lifetime : (x : Lifetime) → bound {A = A} {E = E} (b.Lifetime x) ≡ []
-  in-bound-Lifetime x = ap bound (sym (b.rolls-Lifetime x)) ∙ by_bound (o.TypeParamBoundOf::Lifetime x)
-
-  pub in-bound-PreciseCapture : (x : PreciseCapture) → bound {A = A} {E = E} (b.PreciseCapture x) ≡ []
-  in-bound-PreciseCapture x = ap bound (sym (b.rolls-PreciseCapture x)) ∙ by_bound (o.PreciseCapture x)
-
-  pub in-bound-Verbatim : (x : TokenStream) → bound {A = A} {E = E} (b.Verbatim x) ≡ x ∷ []
-  in-bound-Verbatim x = ap bound (sym (b.rolls-Verbatim x)) ∙ by_bound (o.TypeParamBoundOf::Verbatim x)
-
   pub trait_bound_parts : (t : Option Paren) (l : Option (BoundLifetimes A E)) (m : TraitBoundModifiers) (q : Option token.Question) (z : Path A E) → trait_bound (trait_bound_of t l m q z) ≡ binder l ++ path z
   trait_bound_parts t None m q z = by_trait_bound (record { paren_token = t; lifetimes = None; modifiers = m; maybe = q; path = z }) ∙ path_same z
   trait_bound_parts t (Some l) m q z =
@@ -224,9 +201,6 @@ module _ {A E : Type 0} where
   in_trait_bound x = let f = out-TraitBoundOf A E x in ap trait_bound (sym (roll-out-TraitBoundOf A E x)) ∙ trait_bound_parts f.paren_token f.lifetimes f.modifiers f.maybe f.path
 
   -- ---- arguments
-
-  pub in-arguments-None : arguments {A = A} {E = E} args.None ≡ []
-  in-arguments-None = ap arguments (sym args.rolls-None) ∙ by_arguments o.None
 
   pub in-arguments-AngleBracketed : (x : AngleBracketed A E) → arguments (args.AngleBracketed x) ≡ angle x
   in-arguments-AngleBracketed x = ap arguments (sym (args.rolls-AngleBracketed x)) ∙ by_arguments (o.AngleBracketed x) ∙ args_same x.args.0
@@ -240,14 +214,8 @@ module _ {A E : Type 0} where
   pub in-arguments-Parenthesized : (x : Parenthesized A E) → arguments (args.Parenthesized x) ≡ parenthesized x
   in-arguments-Parenthesized x = parens_parts x.paren_token x.inputs x.output
 
-  pub in-argument-Lifetime : (x : Lifetime) → argument {A = A} {E = E} (ga.Lifetime x) ≡ []
-  in-argument-Lifetime x = ap argument (sym (ga.rolls-Lifetime x)) ∙ by_argument (o.GenericArgumentOf::Lifetime x)
-
   pub in-argument-Type : (x : TypeTree A E) → argument (ga.«Type» x) ≡ ty x
   in-argument-Type x = ap argument (sym (ga.rolls-Type x)) ∙ by_argument (o.GenericArgumentOf::Type x)
-
-  pub in-argument-Const : (x : E) → argument {A = A} {E = E} (ga.Const x) ≡ []
-  in-argument-Const x = ap argument (sym (ga.rolls-Const x)) ∙ by_argument (o.GenericArgumentOf::Const x)
 
   pub in-argument-AssocType : (x : AssocType A E) → argument (ga.AssocType x) ≡ assoc_type x
   in-argument-AssocType x = ap argument (sym (ga.rolls-AssocType x)) ∙ by_argument (o.AssocType x)
@@ -299,3 +267,80 @@ module _ {A E : Type 0} where
 
   pub in_fn_ptr : (x : TypeFnPtr A E) → fn_ptr x ≡ binder (out-TypeFnPtrOf A E x).lifetimes ++ (inputs (out-TypeFnPtrOf A E x).inputs.0 ++ output (out-TypeFnPtrOf A E x).output)
   in_fn_ptr x = let f = out-TypeFnPtrOf A E x in ap fn_ptr (sym (roll-out-TypeFnPtrOf A E x)) ∙ fn_ptr_parts f.attrs f.lifetimes f.unsafety f.abi f.fn_token f.paren_token f.inputs f.variadic f.output
+
+module _ (A E : Type 0) where
+  -- ---- what holds nothing that leads back, and what is held
+
+  pub in-Infer : (x : TypeInferOf A) → ty {A = A} {E = E} (v.Infer x) ≡ []
+  in-Infer x = ap ty (sym (v.rolls-Infer x)) ∙ by_ty (o.Infer x)
+
+  pub in-Macro : (x : TypeMacroOf A) → ty {A = A} {E = E} (v.Macro x) ≡ []
+  in-Macro x = ap ty (sym (v.rolls-Macro x)) ∙ by_ty (o.Macro x)
+
+  pub in-Never : (x : TypeNeverOf A) → ty {A = A} {E = E} (v.Never x) ≡ []
+  in-Never x = ap ty (sym (v.rolls-Never x)) ∙ by_ty (o.Never x)
+
+  pub in-Verbatim : (x : TokenStream) → ty {A = A} {E = E} (v.Verbatim x) ≡ x ∷ []
+  in-Verbatim x = ap ty (sym (v.rolls-Verbatim x)) ∙ by_ty (o.TypeOf::Verbatim x)
+
+  pub in-param-Lifetime : (x : LifetimeParamOf A) → param {A = A} {E = E} (g.Lifetime x) ≡ []
+  in-param-Lifetime x = ap param (sym (g.rolls-Lifetime x)) ∙ by_param (o.GenericParamOf::Lifetime x)
+
+  pub in-bound-Lifetime : (x : Lifetime) → bound {A = A} {E = E} (b.Lifetime x) ≡ []
+  in-bound-Lifetime x = ap bound (sym (b.rolls-Lifetime x)) ∙ by_bound (o.TypeParamBoundOf::Lifetime x)
+
+  pub in-bound-PreciseCapture : (x : PreciseCapture) → bound {A = A} {E = E} (b.PreciseCapture x) ≡ []
+  in-bound-PreciseCapture x = ap bound (sym (b.rolls-PreciseCapture x)) ∙ by_bound (o.PreciseCapture x)
+
+  pub in-bound-Verbatim : (x : TokenStream) → bound {A = A} {E = E} (b.Verbatim x) ≡ x ∷ []
+  in-bound-Verbatim x = ap bound (sym (b.rolls-Verbatim x)) ∙ by_bound (o.TypeParamBoundOf::Verbatim x)
+
+  pub in-arguments-None : arguments {A = A} {E = E} args.None ≡ []
+  in-arguments-None = ap arguments (sym args.rolls-None) ∙ by_arguments o.None
+
+  pub in-argument-Lifetime : (x : Lifetime) → argument {A = A} {E = E} (ga.Lifetime x) ≡ []
+  in-argument-Lifetime x = ap argument (sym (ga.rolls-Lifetime x)) ∙ by_argument (o.GenericArgumentOf::Lifetime x)
+
+  pub in-argument-Const : (x : E) → argument {A = A} {E = E} (ga.Const x) ≡ []
+  in-argument-Const x = ap argument (sym (ga.rolls-Const x)) ∙ by_argument (o.GenericArgumentOf::Const x)
+
+pub ruleset holds = (
+  in-Array,
+  in-FnPtr,
+  in-Group,
+  in-ImplTrait,
+  in-Infer,
+  in-Macro,
+  in-Never,
+  in-Paren,
+  in-Path,
+  in-Ptr,
+  in-Reference,
+  in-Slice,
+  in-TraitObject,
+  in-Tuple,
+  in-Verbatim,
+  in_path_type,
+  in_fn_ptr,
+  in-param-Lifetime,
+  in-param-Type,
+  in-param-Const,
+  in_type_param,
+  in-bound-Trait,
+  in-bound-Lifetime,
+  in-bound-PreciseCapture,
+  in-bound-Verbatim,
+  in_trait_bound,
+  in-arguments-None,
+  in-arguments-AngleBracketed,
+  in-arguments-Parenthesized,
+  in-argument-Lifetime,
+  in-argument-Type,
+  in-argument-Const,
+  in-argument-AssocType,
+  in-argument-AssocConst,
+  in-argument-Constraint,
+  in_assoc_type,
+  in_constraint,
+  some_append,
+)

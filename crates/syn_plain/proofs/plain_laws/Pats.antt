@@ -59,7 +59,7 @@ module _ {X : Type 0} {spells : Place → X → Toks → Type 0} {part over : Ma
   field_plain : {x : FieldPat X} {l r : Toks} → All P (in_field x) → IsField spells part loosely x l r → IsField spells over plainly x l r
   field_plain c (with_colon {x = x} a n k i) = with_colon a n k (up.pat _ x _ _ c i)
   field_plain c (without_colon a f u n) = without_colon a f u n
-  field_plain c (boxed {i = i} {t = t} a j) = boxed a (up.name i t _ _ (turned P (eq.in-Verbatim held.path held.qualifier held.ty t) c).0 j)
+  field_plain c (boxed {i = i} {t = t} a j) = boxed a (up.name i t _ _ (turned P (eq.in-Verbatim (Attr X) X held.path held.qualifier held.ty t) c).0 j)
 
   fields_plain : {w : Many (FieldPat X) Comma} {o : Option (PatRest X)} {l : Toks} → All P (each in_field w.0) → AreFields spells part loosely w o l → AreFields spells over plainly w o l
   fields_plain c (fields_alone i) = fields_alone (listed_plain P in_field i c (λ b x l r d j. field_plain d j))
@@ -102,7 +102,7 @@ module _ {X : Type 0} {spells : Place → X → Toks → Type 0} {part over : Ma
   single_plain c (a_literal i) = a_literal i
   single_plain c (a_const i) = a_const i
   single_plain c (a_call i) = a_call i
-  single_plain c (a_path {q = q} {p = p} i n) = a_path (up.path q p _ _ (turned P (eq.in-Path held.path held.qualifier held.ty (path_pat_of [] q p)) c) i) n
+  single_plain c (a_path {q = q} {p = p} i n) = a_path (up.path q p _ _ (turned P (eq.in-Path (Attr X) X held.path held.qualifier held.ty (path_pat_of [] q p)) c) i) n
   single_plain c (a_range {x = x} i) = a_range (range_plain (turned P (eq.in-Range held.path held.qualifier held.ty x) c) i)
   single_plain c (a_reference {a = a} {x = x} k n i) = a_reference k n (up.pat _ x _ _ (turned P (eq.in-Reference held.path held.qualifier held.ty (reference_of [] a None x)) c) i)
   single_plain c (a_mutable_reference {a = a} {u = u} {x = x} k n i) = a_mutable_reference k n (up.pat _ x _ _ (turned P (eq.in-Reference held.path held.qualifier held.ty (reference_of [] a (Some u) x)) c) i)
@@ -113,7 +113,7 @@ module _ {X : Type 0} {spells : Place → X → Toks → Type 0} {part over : Ma
       let b = split P (in_named q p) (each in_pat xs) (turned P (eq.in-TupleStruct held.path held.qualifier held.ty (tuple_struct_of [] q p (groups.paren s) (xs, cs))) c) in a_tuple_struct (head_plain {q = q} {p = p} b.0 h) (elements_plain b.1 i)
   single_plain c (a_struct {q = q} {p = p} {s = s} {w = w} {o = o} h i) =
       let b = split P (in_named q p) (each in_field w.0) (turned P (eq.in-Struct held.path held.qualifier held.ty (struct_of [] q p (groups.brace s) w o)) c) in a_struct (head_plain {q = q} {p = p} b.0 h) (fields_plain b.1 i)
-  single_plain c (a_verbatim {t = t} i) = a_verbatim (up.boxed t _ _ (turned P (eq.in-Verbatim held.path held.qualifier held.ty t) c).0 i)
+  single_plain c (a_verbatim {t = t} i) = a_verbatim (up.boxed t _ _ (turned P (eq.in-Verbatim (Attr X) X held.path held.qualifier held.ty t) c).0 i)
 
   -- ---- a pattern in its place
 

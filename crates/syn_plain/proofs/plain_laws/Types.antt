@@ -79,7 +79,7 @@ module _ {A E : Type 0} {part over : Manner → Parts A E} {P : TokenStream → 
   pub named_arg_plain : {first : Bool} {x : NamedArg A E} {l r : Toks} → All P (held.ty x.ty) → IsNamedArg part loosely first x l r → IsNamedArg over plainly first x l r
   named_arg_plain c (an_argument {x = x} a i) = an_argument (up.attrs _ _ _ a) (up.ty _ _ x _ _ c i)
   named_arg_plain c (a_named_argument {x = x} a n k i) = a_named_argument (up.attrs _ _ _ a) n k (up.ty _ _ x _ _ c i)
-  named_arg_plain c (a_verbatim_argument {t = t} a i) = a_verbatim_argument (up.attrs _ _ _ a) (up.verbatim_argument t _ _ (turned P (in-Verbatim {A = A} {E = E} t) c).0 i)
+  named_arg_plain c (a_verbatim_argument {t = t} a i) = a_verbatim_argument (up.attrs _ _ _ a) (up.verbatim_argument t _ _ (turned P (in-Verbatim A E t) c).0 i)
 
   pub variadic_plain : {x : FnPtrVariadicOf A} {l : Toks} → IsVariadic part loosely x l → IsVariadic over plainly x l
   variadic_plain (dots a d o) = dots (up.attrs _ _ _ a) d o
@@ -142,4 +142,4 @@ module _ {A E : Type 0} {part over : Manner → Parts A E} {P : TokenStream → 
   type_plain c (an_array_type {x = x} i) = an_array_type (counted_plain (turned P (in-Array x) c) i)
   type_plain c (an_infer_type i) = an_infer_type i
   type_plain c (a_never_type i) = a_never_type i
-  type_plain c (a_verbatim_type {t = t} i) = a_verbatim_type (up.verbatim _ _ t _ _ (turned P (in-Verbatim {A = A} {E = E} t) c).0 i)
+  type_plain c (a_verbatim_type {t = t} i) = a_verbatim_type (up.verbatim _ _ t _ _ (turned P (in-Verbatim A E t) c).0 i)

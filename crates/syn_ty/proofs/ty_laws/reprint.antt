@@ -30,6 +30,7 @@ pub mod Objects
 pub mod Params
 pub mod Paths
 pub mod Qualified
+pub mod Seen
 pub mod Signatures
 pub mod Signed
 pub mod Steps

@@ -3,7 +3,7 @@ use Rattle.std.proofs.Common.{◌≡◌, ◌⊎◌, ℕ, zero, suc, Bool, true, 
 use Rattle.syn_ty.proofs.ty_laws.words.Tokens.{sees_lifetime, Anywhere, Print, Toks, row}
 use Rattle.syn_ty.proofs.ty_laws.words.Paths.{AsWritten, NormalValues, SpelledValues, Values}
 use Rattle.syn_ty.proofs.ty_laws.words.Forms.{BoundPlace, Parameter, ParamPlace, TypePlace, Plus}
-use Rattle.syn_ty.proofs.ty_laws.words.Types.{IsBound, IsParam, ArgumentPlace, between_angles, ConstraintEnds, IsArgument, IsArguments, IsType, Manner, plainly, clearly, End, Parts, spelt_to, turn, GenericArgument, GenericParam, PathArguments, TypeParamBound, TypeTree}
+use Rattle.syn_ty.proofs.ty_laws.words.Types.{IsBound, IsParam, ArgumentPlace, between_angles, ConstraintEnds, IsArgument, IsArguments, IsType, Manner, loosely, plainly, clearly, End, Parts, spelt_to, turn, GenericArgument, GenericParam, PathArguments, TypeParamBound, TypeTree}
 use Rattle.token_core.specs.Tokens as token
 use Rattle.syn_path.specs.Supplied.{Reprints}
 use Rattle.syn_path.proofs.Words.{AgainFront}
@@ -18,6 +18,7 @@ use Rattle.syn_ty.proofs.ty_laws.reprint.FirstTypes.{none_first}
 use Rattle.syn_ty.proofs.ty_laws.reprint.Forms.{NoneFirst}
 use Rattle.syn_ty.proofs.ty_laws.reprint.MovesKnot.{GivenMoves, moving_to, moving_turn}
 use Rattle.syn_ty.proofs.ty_laws.reprint.Params.{BoundsAgain, param_again}
+use Rattle.syn_ty.proofs.ty_laws.reprint.Seen.{Seen, seen_turn}
 use Rattle.syn_ty.proofs.ty_laws.reprint.Types.{type_again}
 
 module _ {A E : Type 0} (na : List A → List A) (ne : NormalValues E) (pa : List A → Print) (pe : Values E) where
@@ -80,10 +81,26 @@ module _ {A E : Type 0} (na : List A → List A) (ne : NormalValues E) (pa : Lis
       supplied_turn : (part : Manner → Parts A E) → SuppliedAgain na ne pa pe (turn shown spelt part)
       supplied_turn part = record { attrs = g.attrs; own = g.own; silent = g.silent; len = g.len; const_argument = g.argument; const_default = g.default }
 
+      -- after what is spelt loosely
+      seen_higher : (part : Manner → Parts A E) → Seen (part loosely) → Seen (turn shown spelt part loosely)
+      seen_higher = seen_turn shown spelt (λ x l r i. (g.attrs x l r i).seen) (λ x l r i. (g.argument x l r i).seen) (λ x l r i. (g.default x l r i).seen)
+
+      none_seen : Seen (To zero loosely)
+      none_seen = record {
+        ty = λ place e x l r i u. absurd i;
+        bound = λ place e x l r i u. absurd i;
+        param = λ place x l r i u. absurd i;
+        argument = λ x l r i u. absurd i;
+        arguments = λ x l r i u. absurd i;
+        attrs = λ x l r i u. absurd i;
+        const_argument = λ x l r i u. absurd i;
+        const_default = λ x l r i u. absurd i;
+      }
+
       -- one height more
       higher : (part : Manner → Parts A E) → Known part → Known (turn shown spelt part)
       higher part k = record {
-        again = record { ty = type_turn part k; bound = bound_turn part k; param = param_turn part k; argument = argument_turn part k between_angles; arguments = arguments_turn part k; moving = λ h. moving_turn shown spelt g.moves h part (k.again.moving h) };
+        again = record { ty = type_turn part k; bound = bound_turn part k; param = param_turn part k; argument = argument_turn part k between_angles; arguments = arguments_turn part k; moving = λ h. moving_turn shown spelt g.moves h part (k.again.moving h); seen = seen_higher part k.again.seen };
         supplied = supplied_turn part;
         len_stays = g.len_stays;
         none = none_turn part k;
@@ -94,7 +111,7 @@ module _ {A E : Type 0} (na : List A → List A) (ne : NormalValues E) (pa : Lis
       -- at every height
       pub known_to : (n : ℕ) → Known (To n)
       known_to zero = record {
-        again = record { ty = λ p d x l r i. absurd i; bound = λ p d x l r i. absurd i; param = λ p x l r i. absurd i; argument = λ x l r i. absurd i; arguments = λ x l r i. absurd i; moving = λ h. moving_to shown spelt g.moves h zero };
+        again = record { ty = λ p d x l r i. absurd i; bound = λ p d x l r i. absurd i; param = λ p x l r i. absurd i; argument = λ x l r i. absurd i; arguments = λ x l r i. absurd i; moving = λ h. moving_to shown spelt g.moves h zero; seen = none_seen };
         supplied = record { attrs = λ x l r i. absurd i; own = g.own; silent = g.silent; len = λ x l i. absurd i; const_argument = λ x l r i. absurd i; const_default = λ x l r i. absurd i };
         len_stays = λ x l i. absurd i;
         none = λ p e x l r i. absurd i;

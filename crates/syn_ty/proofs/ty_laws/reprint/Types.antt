@@ -20,7 +20,6 @@ use Rattle.syn_ty.proofs.ty_laws.reprint.EndsTypes.{verbatim_over}
 use Rattle.syn_ty.proofs.ty_laws.reprint.HeldForms.{held_before}
 use Rattle.syn_ty.proofs.ty_laws.reprint.MovesTypes.{verbatim_moves}
 use Rattle.syn_ty.proofs.ty_laws.reprint.Normals.{normal-Array, normal-FnPtr, normal-ImplTrait, normal-Infer, normal-Macro, normal-Never, normal-Paren, normal-Path, normal-Ptr, normal-Reference, normal-Slice, normal-TraitObject, normal-Tuple, normal-Verbatim, path_type_normal}
-use Rattle.syn_ty.proofs.ty_laws.reprint.Params.{for_again}
 use Rattle.syn_ty.proofs.ty_laws.reprint.Paths.{StyledAgain, written_again}
 use Rattle.syn_ty.proofs.ty_laws.reprint.BareBounds.{bare_bounds_again}
 use Rattle.syn_ty.proofs.ty_laws.reprint.Objects.{dyn_again, impl_again}
@@ -28,6 +27,7 @@ use Rattle.syn_ty.proofs.ty_laws.Prints.{ty-Array, ty-FnPtr, ty-ImplTrait, ty-In
 use Rattle.syn_ty.proofs.ty_laws.reprint.Qualified.{AnyPath, normal_any, no_try_again, print_any}
 use Rattle.syn_ty.proofs.ty_laws.reprint.Leaves.{mark_front}
 use Rattle.syn_ty.proofs.ty_laws.reprint.TypesBegin.{LivesKept}
+use Rattle.syn_ty.proofs.ty_laws.reprint.Seen.{for_seen}
 use Rattle.syn_ty.proofs.ty_laws.reprint.Steps.{row_seen, row_visible}
 
 module _ {A E : Type 0} (na : List A → List A) (ne : NormalValues E) (pa : List A → Print) (pe : Values E) (part : Manner → Parts A E) (again : Again na ne pa pe part) where
@@ -64,10 +64,9 @@ module _ {A E : Type 0} (na : List A → List A) (ne : NormalValues E) (pa : Lis
           (λ z. normal-Path na ne (qualified_with [] z.0 z.1) ∙ ap v.Path (path_type_normal na ne [] z.0 z.1) ∙ ap (λ o. v.Path (qualified_with o (normal.optional_qself na ne z.0) (normal.path na ne z.1))) supplied.own)
           (λ z. ty-Path pa pe (qualified_with [] z.0 z.1) ∙ path_type_parts pa pe [] z.0 z.1) (o, z) l r (no_try_again na ne pa pe part again AsWritten styled o z l r i)
       type_again e x l r (a_macro {x = y} i) = call_type y l r (type_call_again y l r i)
-      type_again e x l r (a_bound_macro {b = b} {x = y} {m = m} i j h) =
+      type_again e x l r (a_bound_macro {x = y} {m = m} i j h) =
           let k = call_type y m r (type_call_again y m r j) in
-          let first = for_again na ne pa pe part again b l m i in
-          record { spelt = k.spelt; visible = λ h u w. k.visible h (first.seen u) w; seen = λ u. k.seen (first.seen u); stays = k.stays; same = k.same }
+          record { spelt = k.spelt; visible = λ h u w. k.visible h (for_seen part again.seen i u) w; seen = λ u. k.seen (for_seen part again.seen i u); stays = k.stays; same = k.same }
       type_again e x l r (an_object_with_dyn {x = y} i) =
           made_front (IsDyn part clearly place e) (Is e) (normal.trait_object na ne) nt (printing.trait_object pa pe) pt v.TraitObject (λ z l r i. an_object_with_dyn i) (normal-TraitObject na ne) (ty-TraitObject pa pe) y l r (dyn_again na ne pa pe part again place supplied.own e y l r i)
       type_again e x l r (an_object_without_dyn {w = w} i) =

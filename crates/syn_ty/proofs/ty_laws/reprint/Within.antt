@@ -3,12 +3,13 @@ use Rattle.std.proofs.Common.{◌≡◌, List, []}
 use Rattle.syn_ty.proofs.ty_laws.words.Tokens.{Print, Toks}
 use Rattle.syn_ty.proofs.ty_laws.words.Paths.{AsWritten, NormalValues, Values}
 use Rattle.syn_ty.proofs.ty_laws.words.Forms.{BoundPlace, ParamPlace, TypePlace}
-use Rattle.syn_ty.proofs.ty_laws.words.Types.{Manner, plainly, clearly, End, Parts, GenericArgument, GenericParam, PathArguments, TypeParamBound, TypeTree}
+use Rattle.syn_ty.proofs.ty_laws.words.Types.{Manner, loosely, plainly, clearly, End, Parts, GenericArgument, GenericParam, PathArguments, TypeParamBound, TypeTree}
 use Rattle.syn_path.specs.Supplied.{Reprints}
 use Rattle.syn_path.proofs.Words.{AgainFront}
 use Rattle.syn_ty.specs.ty.Normal as normal
 use Rattle.syn_ty.specs.ty.Printing as printing
 use Rattle.syn_ty.proofs.ty_laws.reprint.MovesParts.{Moving}
+use Rattle.syn_ty.proofs.ty_laws.reprint.Seen.{Seen}
 
 module _ {A E : Type 0} (na : List A → List A) (ne : NormalValues E) (pa : List A → Print) (pe : Values E) where
   -- the five points
@@ -20,6 +21,8 @@ module _ {A E : Type 0} (na : List A → List A) (ne : NormalValues E) (pa : Lis
     pub arguments : (x : PathArguments A E) (l r : Toks) → (part plainly).arguments x l r → AgainFront (part clearly).arguments (normal.arguments na ne) (printing.arguments pa pe AsWritten) x l r
     -- what is spelt clearly is so before other tokens too
     pub moving : (k : Toks) → Moving k (part clearly)
+    -- after what is spelt loosely, as what is dropped is
+    pub seen : Seen (part loosely)
 
   -- attributes, and expressions in their places
   pub record SuppliedAgain (part : Manner → Parts A E) : Type 0 where
