@@ -37,6 +37,8 @@ mod generics_tests;
 #[cfg(test)]
 mod group_tests;
 #[cfg(test)]
+mod held_tests;
+#[cfg(test)]
 mod left;
 #[cfg(test)]
 mod lexer_tests;
@@ -80,6 +82,10 @@ mod path_tests;
 mod plain_front_tests;
 #[cfg(test)]
 mod plain_type_tests;
+#[cfg(test)]
+mod printed_again;
+#[cfg(test)]
+mod printed_again_tests;
 #[cfg(test)]
 mod qualified_tests;
 #[cfg(test)]

@@ -3,6 +3,7 @@
 
 pub mod attr;
 pub mod generics;
+pub mod held;
 pub mod laws;
 pub mod mac;
 pub mod meta;

@@ -22,8 +22,8 @@ pub trait HoldsVerbatim {
 
 /// Whether a tree holds tokens as written: a type, a bound or a pattern for which there is no tree (`Type::Verbatim` and so on), at any depth.
 ///
-/// What attributes, expressions and macro calls hold is not looked into. Where the answer is `false`, the tree is plain (`laws`), so what was read
-/// as it is printed, and read again.
+/// What attributes, expressions and macro calls hold is not looked into. A tree that was read, and of which this is `false`, is printed so that the
+/// same read reads it again (`laws`).
 pub fn holds_verbatim<T: HoldsVerbatim>(tree: &T) -> bool
     ensures { result ≡ some (T.held tree.now) }
 {
