@@ -34,7 +34,7 @@ pub fn holds_verbatim<T: HoldsVerbatim>(tree: &T) -> bool
 impl<T: HoldsVerbatim, P> HoldsVerbatim for Punctuated<T, P> {
     ghost held = { λ v. each T.held v.0 };
 
-    #[tactic(auto, using(crate::proofs::plain_laws::Some::holds))]
+    #[tactic(auto, using(crate::proofs::plain_laws::Some::some_append))]
     fn holds_verbatim(&self) -> bool {
         for value in self.values() {
             if value.holds_verbatim() {

@@ -42,13 +42,13 @@ module _ {X : Type 0} (spells : Place → X → Toks → Type 0) where
 module _ {X : Type 0} {spells : Place → X → Toks → Type 0} {part over : Manner → PatPlace → Relation (Pat X)} {P : TokenStream → Type 0} (up : PlainerPat spells P part over) where
   -- ---- bindings
 
-  subpat_plain : (s : token.At × Pat X) (l r : Toks) → All P (in_pat s.1) → IsSubpat part loosely s l r → IsSubpat over plainly s l r
+  subpat_plain : (s : token.At × Pat X) (l r : Toks) → All P (in_pat s.1) → IsSubpat spells part loosely s l r → IsSubpat spells over plainly s l r
   subpat_plain s l r c (a_subpat {x = x} a i) = a_subpat a (up.pat _ x _ _ c i)
 
   abbrev in_subpat : token.At × Pat X → Held
   in_subpat s = in_pat s.1
 
-  binding_plain : {x : PatIdent X} {l r : Toks} → All P (optional in_subpat x.subpat) → IsBinding part loosely x l r → IsBinding over plainly x l r
+  binding_plain : {x : PatIdent X} {l r : Toks} → All P (optional in_subpat x.subpat) → IsBinding spells part loosely x l r → IsBinding spells over plainly x l r
   binding_plain c (a_binding f u n s) = a_binding f u n (optional_plain P in_subpat s c (λ y k m d j. subpat_plain y k m d j))
 
   -- ---- the fields of a struct
@@ -67,7 +67,7 @@ module _ {X : Type 0} {spells : Place → X → Toks → Type 0} {part over : Ma
 
   -- ---- patterns in a group
 
-  elements_plain : {place : PatPlace} {xs : List (Pat X)} {cs : List Comma} {l : Toks} → All P (each in_pat xs) → AreElements part loosely place xs cs l → AreElements over plainly place xs cs l
+  elements_plain : {place : PatPlace} {xs : List (Pat X)} {cs : List Comma} {l : Toks} → All P (each in_pat xs) → AreElements spells part loosely place xs cs l → AreElements spells over plainly place xs cs l
   elements_plain {place} c i = listed_plain P in_pat i c (λ b x l r d j. up.pat place x l r d j)
 
   -- ---- paths and ranges

@@ -5,7 +5,3 @@ use Rattle.syn_plain.specs.held.Types.{Held, some}
 pub some_append : (u v : Held) → some (u ++ v) ≡ (some u || some v)
 some_append [] v = refl
 some_append (t ∷ u) v = refl
-
-pub ruleset holds = (
-  some_append,
-)

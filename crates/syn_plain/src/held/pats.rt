@@ -128,7 +128,7 @@ impl<A, P: HoldsVerbatim, Q: HoldsVerbatim, T: HoldsVerbatim, X> HoldsVerbatim
 impl<F: HoldsVerbatim, A, T: HoldsVerbatim> HoldsVerbatim for PatTypeOf<F, A, T> {
     ghost held = { λ x. F.held x.pat ++ T.held x.ty };
 
-    #[tactic(auto, using(crate::proofs::plain_laws::Some::holds))]
+    #[tactic(auto, using(crate::proofs::plain_laws::Some::some_append))]
     fn holds_verbatim(&self) -> bool {
         self.pat.get().holds_verbatim() || self.ty.get().holds_verbatim()
     }
@@ -140,7 +140,7 @@ impl<F: HoldsVerbatim, A, T: HoldsVerbatim> HoldsVerbatim for PatTypeOf<F, A, T>
 impl<A, P: HoldsVerbatim, Q: HoldsVerbatim> HoldsVerbatim for PatPathOf<A, P, Q> {
     ghost held = { spec.by_path P.held Q.held };
 
-    #[tactic(auto, using(crate::proofs::plain_laws::Some::holds))]
+    #[tactic(auto, using(crate::proofs::plain_laws::Some::some_append))]
     fn holds_verbatim(&self) -> bool {
         self.qself.holds_verbatim() || self.path.holds_verbatim()
     }
@@ -161,7 +161,7 @@ impl<A, P: HoldsVerbatim, Q: HoldsVerbatim, X> HoldsVerbatim for PatRangeBoundOf
 impl<A, P: HoldsVerbatim, Q: HoldsVerbatim, X> HoldsVerbatim for PatRangeOf<A, P, Q, X> {
     ghost held = { spec.range P.held Q.held };
 
-    #[tactic(auto, using(crate::proofs::plain_laws::Some::holds))]
+    #[tactic(auto, using(crate::proofs::plain_laws::Some::some_append))]
     fn holds_verbatim(&self) -> bool {
         bound_holds(&self.start) || bound_holds(&self.end)
     }
