@@ -1,11 +1,10 @@
 -- That a tree is plain, so that what was read is printed and read again, follows from what it holds as written: for each reader whose promise asks for it.
-use Rattle.std.specs.Prelude.{◌≡◌, ◌≢◌, Bool, true, false, [], Option, Some}
+use Rattle.std.specs.Prelude.{◌≡◌, ◌≢◌, false, [], Some}
 use Rattle.token_core.specs.Headline.{Grammar, Headline, Reprinted}
 use Rattle.token_core.specs.Rebuilt.{Visible}
 use Rattle.token_core.specs.Toks.{Toks}
 use Rattle.syn_path.specs.Traits as traits
 use Rattle.syn_forms.specs.declared.places.TypePlace.{TypePlace}
-use Rattle.syn_generics.specs.declared.generics.WhereClauseOf.{WhereClauseOf}
 use Rattle.syn_generics.specs.generics.Promises as clauses
 use Rattle.syn_pat.specs.declared.place.PatPlace.{PatPlace}
 use Rattle.syn_pat.specs.pat.Promises as patterns

@@ -1,5 +1,5 @@
 -- Generics, predicates and where clauses are spelt plainly where what they hold as written is clear.
-use Rattle.std.proofs.Common.{Bool, List, [], ◌∷◌, Option, Some, None}
+use Rattle.std.proofs.Common.{List, [], Option}
 use Rattle.token_core.specs.Prints.{each}
 use Rattle.token_core.specs.Tokens as token
 use Rattle.token_core.specs.Toks.{Toks}

@@ -4,7 +4,7 @@ use Rattle.token_core.specs.declared.lifetime.Lifetime.{Lifetime}
 use Rattle.token_core.specs.declared.token.Paren.{Paren}
 use Rattle.token_core.specs.declared.tree.Ident.{Ident}
 use Rattle.token_core.specs.Loops.{Many}
-use Rattle.token_core.specs.Prints.{each, optional}
+use Rattle.token_core.specs.Prints.{each}
 use Rattle.token_core.specs.Tokens as token
 use Rattle.token_core.specs.Trees.{TokenStream}
 use Rattle.syn_path.specs.declared.path.PathOf.{PathOf}
@@ -39,9 +39,9 @@ use Rattle.syn_ty.specs.declared.ty.TypeOf.TheVariants as v
 use Rattle.syn_ty.specs.declared.ty.TypePathOf.{roll-TypePathOf, out-TypePathOf, roll-out-TypePathOf}
 use Rattle.syn_ty.specs.generics.Params.{Colon, Eq, trait_bound_of, type_param_of}
 use Rattle.syn_ty.specs.path.Paths.{assoc_type_of, assoc_const_of, constraint_of, parens_of}
-use Rattle.syn_ty.specs.ty.Trees.{Family, Layer, TypeParam, ConstParam, BoundLifetimes, TypeParamBound, TraitBound, PathArguments, Path, PathSegment, GenericParam, GenericArgument, AngleBracketed, Parenthesized, AssocType, AssocConst, Constraint, TypeTree, QSelf, TypeArray, TypeFnPtr, TypeGroup, TypeImplTrait, TypeParen, TypePath, TypePtr, TypeReference, TypeSlice, TypeTraitObject, TypeTuple, NamedArg, ReturnType}
+use Rattle.syn_ty.specs.ty.Trees.{Family, Layer, TypeParam, ConstParam, BoundLifetimes, TypeParamBound, TraitBound, Path, PathSegment, GenericParam, GenericArgument, AngleBracketed, Parenthesized, AssocType, AssocConst, Constraint, TypeTree, QSelf, TypeArray, TypeFnPtr, TypeGroup, TypeImplTrait, TypeParen, TypePath, TypePtr, TypeReference, TypeSlice, TypeTraitObject, TypeTuple, NamedArg, ReturnType}
 use Rattle.syn_ty.specs.ty.Types.{Comma, Plus, fn_ptr_with, qualified_with}
-use Rattle.syn_plain.specs.held.Types.{Held, Over, within, output_by, qself_by, default_by, inputs_by, parenthesized_by, binder_by, generics_by, path_by, param_step, bound_step, argument_step, arguments_step, ty_step, trait_bound_step, type_param_step, assoc_type_step, constraint_step, fn_ptr_step, path_type_step, param, bound, argument, arguments, ty, trait_bound, type_param, assoc_type, constraint, fn_ptr, path_type, path, qself, inputs, output, parenthesized, angle, generics, binder}
+use Rattle.syn_plain.specs.held.Types.{Held, Over, within, default_by, inputs_by, path_by, param_step, bound_step, argument_step, arguments_step, ty_step, trait_bound_step, type_param_step, assoc_type_step, constraint_step, fn_ptr_step, path_type_step, param, bound, argument, arguments, ty, trait_bound, type_param, assoc_type, constraint, fn_ptr, path_type, path, qself, inputs, output, parenthesized, angle, generics, binder}
 use Rattle.syn_plain.proofs.plain_laws.Some.{some_append}
 
 -- what the elements of a list hold that was mapped

@@ -1,17 +1,17 @@
 -- Trees of any height are spelt plainly where what they hold as written is clear.
-use Rattle.std.proofs.Common.{◌≡◌, ℕ, zero, suc, ◌≤◌, ◌+◌, Bool, List, [], ◌∷◌, arith, subst, sym}
-use Rattle.token_core.specs.Toks.{Toks, done}
-use Rattle.token_core.specs.Trees.{TokenStream, row, trees}
+use Rattle.std.proofs.Common.{ℕ, zero, suc, ◌≤◌, ◌+◌, Bool, List, arith, subst}
+use Rattle.token_core.specs.Toks.{Toks}
+use Rattle.token_core.specs.Trees.{TokenStream}
 use Rattle.syn_path.specs.Values.{SpelledValues}
 use Rattle.syn_forms.specs.declared.places.TypePlace.{TypePlace}
 use Rattle.syn_ty.specs.ty.Admitted.{IsVerbatimType}
 use Rattle.syn_ty.specs.ty.Functions.{IsMutSelf}
-use Rattle.syn_ty.specs.ty.Parts.{Manner, loosely, plainly, clearly, End, IsVerbatim}
+use Rattle.syn_ty.specs.ty.Parts.{Manner, loosely, plainly, End, IsVerbatim}
 use Rattle.syn_ty.specs.ty.Spelt.{spelt_to}
 use Rattle.syn_ty.proofs.ty_laws.sound.Higher.{higher_to}
 use Rattle.syn_ty.proofs.ty_laws.sound.HigherBounds.{for_up}
 use Rattle.syn_ty.proofs.ty_laws.sound.HigherTypes.{mut_self_up, verbatim_type_up}
-use Rattle.syn_plain.specs.Clear.{All, IsClear}
+use Rattle.syn_plain.specs.Clear.{IsClear}
 use Rattle.syn_plain.proofs.plain_laws.Bounds.{argument_plain, bound_plain, param_plain}
 use Rattle.syn_plain.proofs.plain_laws.Parts.{Plainer}
 use Rattle.syn_plain.proofs.plain_laws.Paths.{arguments_plain}

@@ -1,7 +1,7 @@
 -- What each kind of pattern holds as written, by what it holds.
-use Rattle.std.proofs.Common.{◌≡◌, List, [], ◌∷◌, ◌++◌, map, Option, Some, None, refl, sym, ap, ◌∙◌}
+use Rattle.std.proofs.Common.{◌≡◌, List, [], ◌∷◌, ◌++◌, Option, Some, None, sym, ap, ◌∙◌}
 use Rattle.token_core.specs.declared.tree.Ident.{Ident}
-use Rattle.token_core.specs.Prints.{each, optional}
+use Rattle.token_core.specs.Prints.{each}
 use Rattle.token_core.specs.Tokens as token
 use Rattle.token_core.specs.Trees.{TokenStream}
 use Rattle.syn_attr.specs.declared.expr.ExprConstOf.{ExprConstOf}

@@ -1,5 +1,5 @@
 -- Arguments in angle brackets and in parentheses, and paths, are spelt plainly where what they hold as written is clear.
-use Rattle.std.proofs.Common.{List, [], ◌∷◌, Option, sym}
+use Rattle.std.proofs.Common.{List, [], Option}
 use Rattle.token_core.specs.Prints.{each}
 use Rattle.token_core.specs.Toks.{Bytes, Toks}
 use Rattle.token_core.specs.Trees.{TokenStream}

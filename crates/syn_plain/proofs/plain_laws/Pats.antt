@@ -1,24 +1,24 @@
 -- Patterns are spelt plainly where what they hold as written is clear.
-use Rattle.std.proofs.Common.{◌≡◌, ℕ, zero, suc, ◌≤◌, ◌+◌, Bool, List, [], ◌∷◌, Option, Some, None, sym, ◌∙◌, arith, subst}
+use Rattle.std.proofs.Common.{ℕ, zero, suc, ◌≤◌, ◌+◌, Bool, List, [], ◌∷◌, Option, Some, None, arith, subst}
 use Rattle.token_core.specs.declared.tree.Ident.{Ident}
 use Rattle.token_core.specs.Groups as groups
 use Rattle.token_core.specs.Loops.{Many}
 use Rattle.token_core.specs.Prints.{each, optional}
 use Rattle.token_core.specs.Tokens as token
-use Rattle.token_core.specs.Toks.{Toks, done}
-use Rattle.token_core.specs.Trees.{TokenStream, row, trees}
+use Rattle.token_core.specs.Toks.{Toks}
+use Rattle.token_core.specs.Trees.{TokenStream}
 use Rattle.syn_path.specs.declared.supplied.Place.{Place}
 use Rattle.syn_attr.specs.attr.Attrs.{Attribute as Attr}
 use Rattle.syn_attr.specs.declared.expr.Expr.{Expr}
-use Rattle.syn_ty.specs.ty.Parts.{Manner, loosely, plainly, clearly, IsVerbatim}
-use Rattle.syn_ty.specs.ty.Spelling.{IsOptional, Relation}
+use Rattle.syn_ty.specs.ty.Parts.{Manner, loosely, plainly, IsVerbatim}
+use Rattle.syn_ty.specs.ty.Spelling.{Relation}
 use Rattle.syn_ty.specs.ty.Trees.{Path, QSelf}
 use Rattle.syn_ty.specs.ty.Types.{Comma}
 use Rattle.syn_pat.specs.declared.place.PatPlace.{PatPlace}
-use Rattle.syn_pat.specs.declared.place.PatPlace.TheVariants.{Single, LeadingVert}
-use Rattle.syn_pat.specs.pat.Admitted.{IsBoxed, a_box, IsBoxedName, IsSubpat, a_subpat, IsBinding, a_binding, IsField, with_colon, without_colon, boxed, AreFields, fields_alone, fields_and_rest, AreElements, IsSingleWhere, a_binding_pat, a_wild, a_rest, a_literal, a_const, a_call, a_path, a_range, a_reference, a_mutable_reference, a_paren, a_tuple, a_slice, a_tuple_struct, a_struct, a_verbatim, AreCasesWhere, cases, IsPatWhere, a_single, some_cases, one_after_vert, some_after_vert}
-use Rattle.syn_pat.specs.pat.Pats.{FieldPat, Pat, PatIdent, PatRange, PatRangeBound, PatRest, binding_of, or_of, paren_of, path_pat_of, reference_of, slice_of, struct_of, tuple_of, tuple_struct_of}
-use Rattle.syn_pat.specs.pat.Spelling.{outer_spelt, types_to, values_spelt, IsPatPath, a_pat_path, IsHead, IsEnd, a_literal_end, a_path_end, a_const_end, IsStart, a_literal_start, a_path_start, a_const_start, IsRange, without_end, without_start, with_both}
+use Rattle.syn_pat.specs.declared.place.PatPlace.TheVariants.{Single}
+use Rattle.syn_pat.specs.pat.Admitted.{IsBoxed, IsBoxedName, IsSubpat, a_subpat, IsBinding, a_binding, IsField, with_colon, without_colon, boxed, AreFields, fields_alone, fields_and_rest, AreElements, IsSingleWhere, a_binding_pat, a_wild, a_rest, a_literal, a_const, a_call, a_path, a_range, a_reference, a_mutable_reference, a_paren, a_tuple, a_slice, a_tuple_struct, a_struct, a_verbatim, AreCasesWhere, cases, IsPatWhere, a_single, some_cases, one_after_vert, some_after_vert}
+use Rattle.syn_pat.specs.pat.Pats.{FieldPat, Pat, PatIdent, PatRange, PatRangeBound, PatRest, or_of, paren_of, path_pat_of, reference_of, slice_of, struct_of, tuple_of, tuple_struct_of}
+use Rattle.syn_pat.specs.pat.Spelling.{outer_spelt, values_spelt, IsPatPath, a_pat_path, IsHead, IsEnd, a_literal_end, a_path_end, a_const_end, IsStart, a_literal_start, a_path_start, a_const_start, IsRange, without_end, without_start, with_both}
 use Rattle.syn_pat.specs.pat.Spelt.{pats_to}
 use Rattle.syn_plain.specs.Clear.{All, IsClear, IsClearPat}
 use Rattle.syn_plain.specs.held.Pats as held_pats

@@ -1,9 +1,9 @@
 -- For each reader: a tree that spells a list without invisible groups is plain where what it holds as written is clear, and where it holds nothing so; then what was read is printed and read again.
-use Rattle.std.proofs.Common.{◌≡◌, ◌≢◌, ℕ, ◌+◌, Bool, true, false, [], ◌∷◌, Option, Some, refl, sym, subst, arith}
+use Rattle.std.proofs.Common.{◌≡◌, ◌≢◌, ℕ, ◌+◌, false, [], ◌∷◌, refl, sym, subst, arith}
 use Rattle.token_core.specs.Headline.{Grammar}
 use Rattle.token_core.specs.Rebuilt.{Visible}
 use Rattle.token_core.specs.Toks.{Toks, done}
-use Rattle.syn_path.specs.declared.path.PathStyle.TheVariants.{AsWritten, Expr as expressions}
+use Rattle.syn_path.specs.declared.path.PathStyle.TheVariants.{AsWritten}
 use Rattle.syn_path.specs.Traits as traits
 use Rattle.syn_attr.specs.declared.expr.Expr.TheVariants as e
 use Rattle.syn_forms.specs.declared.places.BoundPlace.TheVariants.{Opaque}
@@ -22,17 +22,17 @@ use Rattle.syn_pat.specs.pat.Spelling.{outer_spelt, values_spelt}
 use Rattle.syn_pat.specs.pat.Spelt.{pats_to, SpellsGuarded, without_guard, with_guard, SpellsPatType, a_pat_type}
 use Rattle.syn_ty.specs.declared.generics.LifetimeParamOf.{LifetimeParamOf}
 use Rattle.syn_ty.specs.generics.Bounds.{IsBound, IsFor, IsTraitBound}
-use Rattle.syn_ty.specs.generics.Parameters.{IsConstParam, IsLifetimeParam, a_lone_lifetime, a_lifetime_with_bounds, IsParam, IsTypeParam}
+use Rattle.syn_ty.specs.generics.Parameters.{IsConstParam, a_lone_lifetime, a_lifetime_with_bounds, IsParam, IsTypeParam}
 use Rattle.syn_ty.specs.path.Arguments.{alone, IsArgument}
 use Rattle.syn_ty.specs.path.Signed.{IsParens, IsReturn}
-use Rattle.syn_ty.specs.path.Spelling.{IsAngle, IsPath, IsSegment, Styled}
+use Rattle.syn_ty.specs.path.Spelling.{IsAngle, IsPath, IsSegment}
 use Rattle.syn_ty.specs.ty.Admitted.{IsBorrow, IsBracketed, IsCounted, IsEnclosed, IsPointer, IsTupled, IsType}
 use Rattle.syn_ty.specs.ty.Functions.{IsFnPtr, IsNamedArg}
 use Rattle.syn_ty.specs.ty.Objects.{IsImpl, IsObject}
 use Rattle.syn_ty.specs.ty.Parts.{Manner, loosely, plainly, End, Parts}
 use Rattle.syn_ty.specs.ty.Promises as promises
 use Rattle.syn_ty.specs.ty.Spelling.{IsOptional, Relation}
-use Rattle.syn_ty.specs.ty.Spelt.{spelt_to, Spells, SpellsEnding, IsPathAlone, a_path_alone, IsLifetimeAlone, with_attributes}
+use Rattle.syn_ty.specs.ty.Spelt.{spelt_to, Spells, SpellsEnding, IsPathAlone, a_path_alone, IsLifetimeAlone}
 use Rattle.syn_ty.specs.ty.Trees.{TypePath}
 use Rattle.syn_plain.specs.Clear.{All, IsClear, IsClearPat, VerbatimsClear, PatVerbatimsClear}
 use Rattle.syn_plain.specs.held.Generics as held_generics

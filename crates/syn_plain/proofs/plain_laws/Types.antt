@@ -1,5 +1,5 @@
 -- Types are spelt plainly where what they hold as written is clear.
-use Rattle.std.proofs.Common.{Bool, List, [], ◌∷◌, Option, Some, None, ◌∙◌}
+use Rattle.std.proofs.Common.{Bool, List, [], Option, Some, None, ◌∙◌}
 use Rattle.token_core.specs.Groups as groups
 use Rattle.token_core.specs.Loops.{Many}
 use Rattle.token_core.specs.Prints.{each}
@@ -17,7 +17,7 @@ use Rattle.syn_ty.specs.ty.Objects.{IsBoundList, several_bounds, one_bound, AreO
 use Rattle.syn_ty.specs.ty.Parts.{Manner, loosely, plainly, End, Parts}
 use Rattle.syn_ty.specs.ty.Spelling.{IsOptional}
 use Rattle.syn_ty.specs.ty.Trees.{BoundLifetimes, NamedArg, Path, TypeArray, TypeFnPtr, TypeImplTrait, TypeParamBound, TypeParen, TypePtr, TypeReference, TypeSlice, TypeTraitObject, TypeTree, TypeTuple}
-use Rattle.syn_ty.specs.ty.Types.{fn_ptr_with, qualified_with}
+use Rattle.syn_ty.specs.ty.Types.{qualified_with}
 use Rattle.syn_plain.specs.Clear.{All}
 use Rattle.syn_plain.specs.held.Types as held
 use Rattle.syn_plain.proofs.plain_laws.Held.{in-Array, in-FnPtr, in-ImplTrait, in-Paren, in-Path, in-Ptr, in-Reference, in-Slice, in-TraitObject, in-Tuple, in-Verbatim, fn_ptr_parts, path_type_parts}

@@ -7,8 +7,8 @@ ghost use Rattle.syn_plain.specs.held.Types.{some};
 
 use crate::held::HoldsVerbatim;
 use syn_pat::pat::{
-    FieldPatOf, PatIdentOf, PatOf, PatPathOf, PatRangeBoundOf, PatRangeOf, PatStructOf, PatTupleStructOf,
-    PatTypeOf,
+    FieldPatOf, PatIdentOf, PatOf, PatPathOf, PatRangeBoundOf, PatRangeOf, PatStructOf,
+    PatTupleStructOf, PatTypeOf,
 };
 use token_core::{Boxed, Punctuated};
 
@@ -22,7 +22,8 @@ fn holds_pat<A, P: HoldsVerbatim, Q: HoldsVerbatim, T: HoldsVerbatim, X>(
     ensures { result ≡ some (spec.pat P.held Q.held T.held pat.now) }
 {
     match pat {
-        PatOf::Const(_) | PatOf::Lit(_) | PatOf::Macro(_) | PatOf::Rest(_) | PatOf::Wild(_) => false,
+        PatOf::Const(_) | PatOf::Lit(_) | PatOf::Macro(_) | PatOf::Rest(_) | PatOf::Wild(_) =>
+            false,
         PatOf::Guard(guard) => holds_pat(guard.pat.get()),
         PatOf::Ident(binding) => holds_binding(binding),
         PatOf::Or(alternatives) => holds_pats(&alternatives.cases),
@@ -115,8 +116,7 @@ fn holds_typed<A, P: HoldsVerbatim, Q: HoldsVerbatim, T: HoldsVerbatim, X>(
 }
 
 impl<A, P: HoldsVerbatim, Q: HoldsVerbatim, T: HoldsVerbatim, X> HoldsVerbatim
-    for PatOf<A, P, Q, T, X>
-{
+    for PatOf<A, P, Q, T, X> {
     ghost held = { spec.pat P.held Q.held T.held };
 
     fn holds_verbatim(&self) -> bool {

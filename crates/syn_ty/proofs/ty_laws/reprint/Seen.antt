@@ -2,11 +2,11 @@
 use Rattle.std.proofs.Common.{ℕ, Bool, false, List, Option, subst}
 use Rattle.token_core.specs.Listed.{AreListed}
 use Rattle.token_core.specs.Loops.{Many}
-use Rattle.token_core.specs.Spellings.{IsMark, IsWord, IsStr}
+use Rattle.token_core.specs.Spellings.{IsMark, IsWord}
 use Rattle.token_core.specs.Rebuilt.{Visible}
 use Rattle.token_core.specs.Tokens as token
 use Rattle.token_core.specs.Toks.{Bytes, Toks}
-use Rattle.token_core.specs.Trees.{TokenStream, row, trees}
+use Rattle.token_core.specs.Trees.{TokenStream, trees}
 use Rattle.token_core.specs.declared.lifetime.Lifetime.{Lifetime}
 use Rattle.token_core.specs.declared.mark.Mark.{Mark}
 use Rattle.token_core.specs.declared.tree.Ident.{Ident}
@@ -39,7 +39,7 @@ use Rattle.syn_ty.specs.path.Signed.{IsReturn, no_output, an_output, IsParens, a
 use Rattle.syn_ty.specs.path.Spelling.{IsAngle, an_angle, IsArguments, some_arguments, IsSegment, a_word, a_word_with_arguments, AreSegments, IsPath, a_path, IsQualified, by_type, by_type_as_path, IsAnyPath, unqualified, qualified}
 use Rattle.syn_ty.specs.ty.Admitted.{IsPointer, a_pointer, IsBorrow, a_borrow, a_mutable_borrow, a_lifetime_borrow, IsEnclosed, enclosed, IsBracketed, bracketed, IsCounted, counted, IsTupled, no_element, some_elements, IsTypeCall, IsType, a_path_type, a_macro, a_bound_macro, an_object_with_dyn, an_object_without_dyn, an_impl_type, a_fn_type, a_ptr_type, a_reference_type, a_paren_type, a_tuple_type, a_slice_type, an_array_type, an_infer_type, a_never_type, a_verbatim_type}
 use Rattle.syn_ty.specs.ty.Functions.{IsAbi, an_abi, IsFnPtr, a_fn_ptr}
-use Rattle.syn_ty.specs.ty.Objects.{IsBoundList, several_bounds, one_bound, AreObjectBounds, object_bounds, IsDyn, a_dyn, IsImpl, an_impl, IsFirst, a_first, a_first_for, IsAsked, an_asked, AreFurther, none_further, some_further, AreBareBounds, path_alone, path_and_plus, held_and_plus, asked_first, asked_in_two, lifetime_first}
+use Rattle.syn_ty.specs.ty.Objects.{IsBoundList, several_bounds, one_bound, object_bounds, IsDyn, a_dyn, IsImpl, an_impl, IsFirst, a_first, a_first_for, AreFurther, none_further, some_further, AreBareBounds, path_alone, path_and_plus, held_and_plus, asked_first, asked_in_two, lifetime_first}
 use Rattle.syn_ty.specs.ty.Parts.{Manner, loosely, End, Parts, Holds}
 use Rattle.syn_ty.specs.ty.Spelling.{Relation, IsOptional, absent, present}
 use Rattle.syn_ty.specs.ty.Spelt.{turn}
