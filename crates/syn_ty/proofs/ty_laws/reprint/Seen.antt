@@ -61,14 +61,14 @@ pub record Seen {A E : Type 0} (p : Parts A E) : Type 0 where
 -- ---- tokens
 
 mark_seen : {n k : ℕ} {x : Mark n k} {l r : Toks} → IsMark false x l r → Visible l → Visible r
-mark_seen {x = x} {l} {r} i = mark_visible false x l r i
+mark_seen {x = x} {l = l} {r = r} i = mark_visible false x l r i
 
 word_seen : {n : ℕ} {x : Word n} {l r : Toks} → IsWord x l r → Visible l → Visible r
-word_seen {x = x} {l} {r} i = word_visible x l r i
+word_seen {x = x} {l = l} {r = r} i = word_visible x l r i
 
 listed_seen : {A : Type 0} {n k : ℕ} {V : Bool → A → Toks → Toks → Type 0} {Ends : Bool → Type 0} {b : Bool} {xs : List A} {ps : List (Mark n k)} {l r : Toks} → AreListed V (IsMark false) Ends b xs ps l r →
     ((b : Bool) (x : A) (l r : Toks) → V b x l r → Visible l → Visible r) → Visible l → Visible r
-listed_seen {V = V} {Ends} {b} {xs} {ps} {l} {r} i f = spelt_visible V (IsMark false) Ends f (λ p l r j. mark_visible false p l r j) b xs ps l r i
+listed_seen {V = V} {Ends = Ends} {b = b} {xs = xs} {ps = ps} {l = l} {r = r} i f = spelt_visible V (IsMark false) Ends f (λ p l r j. mark_visible false p l r j) b xs ps l r i
 
 optional_seen : {A : Type 0} {V : Relation A} {o : Option A} {l r : Toks} → IsOptional V o l r → ((x : A) (l r : Toks) → V x l r → Visible l → Visible r) → Visible l → Visible r
 optional_seen absent f u = u
