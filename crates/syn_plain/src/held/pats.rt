@@ -10,6 +10,7 @@ use syn_pat::pat::{
     FieldPatOf, PatIdentOf, PatOf, PatPathOf, PatRangeBoundOf, PatRangeOf, PatStructOf,
     PatTupleStructOf, PatTypeOf,
 };
+use token_core::token::{Comma, Or};
 use token_core::{Boxed, Punctuated};
 
 // ---- patterns
@@ -26,7 +27,7 @@ fn holds_pat<A, P: HoldsVerbatim, Q: HoldsVerbatim, T: HoldsVerbatim, X>(
             false,
         PatOf::Guard(guard) => holds_pat(guard.pat.get()),
         PatOf::Ident(binding) => holds_binding(binding),
-        PatOf::Or(alternatives) => holds_pats(&alternatives.cases),
+        PatOf::Or(alternatives) => holds_cases(&alternatives.cases),
         PatOf::Paren(paren) => holds_pat(paren.pat.get()),
         PatOf::Path(path) => path.holds_verbatim(),
         PatOf::Range(range) => range.holds_verbatim(),
@@ -42,12 +43,27 @@ fn holds_pat<A, P: HoldsVerbatim, Q: HoldsVerbatim, T: HoldsVerbatim, X>(
 
 #[cycle(pats)]
 #[tactic(auto, using(crate::proofs::plain_laws::PatHeld::holds))]
-fn holds_pats<A, P: HoldsVerbatim, Q: HoldsVerbatim, T: HoldsVerbatim, X, S>(
-    pats: &Punctuated<PatOf<A, P, Q, T, X>, S>,
+fn holds_pats<A, P: HoldsVerbatim, Q: HoldsVerbatim, T: HoldsVerbatim, X>(
+    pats: &Punctuated<PatOf<A, P, Q, T, X>, Comma>,
 ) -> bool
     ensures { result ≡ some (each (spec.pat P.held Q.held T.held) pats.now.0) }
 {
     for pat in pats.values() {
+        if holds_pat(pat) {
+            return true;
+        }
+    }
+    false
+}
+
+#[cycle(pats)]
+#[tactic(auto, using(crate::proofs::plain_laws::PatHeld::holds))]
+fn holds_cases<A, P: HoldsVerbatim, Q: HoldsVerbatim, T: HoldsVerbatim, X>(
+    cases: &Punctuated<PatOf<A, P, Q, T, X>, Or>,
+) -> bool
+    ensures { result ≡ some (each (spec.pat P.held Q.held T.held) cases.now.0) }
+{
+    for pat in cases.values() {
         if holds_pat(pat) {
             return true;
         }
@@ -81,8 +97,8 @@ fn holds_struct<A, P: HoldsVerbatim, Q: HoldsVerbatim, T: HoldsVerbatim, X>(
 
 #[cycle(pats)]
 #[tactic(auto, using(crate::proofs::plain_laws::PatHeld::holds))]
-fn holds_fields<A, P: HoldsVerbatim, Q: HoldsVerbatim, T: HoldsVerbatim, X, S>(
-    fields: &Punctuated<FieldPatOf<PatOf<A, P, Q, T, X>, A>, S>,
+fn holds_fields<A, P: HoldsVerbatim, Q: HoldsVerbatim, T: HoldsVerbatim, X>(
+    fields: &Punctuated<FieldPatOf<PatOf<A, P, Q, T, X>, A>, Comma>,
 ) -> bool
     ensures { result ≡ some (each (spec.field P.held Q.held T.held) fields.now.0) }
 {
