@@ -2,7 +2,6 @@
 
 use crate::verbatim_tests::says;
 use std::alloc::Global;
-use std::process::Abort;
 use syn_mid::held::{HoldsVerbatim, holds_verbatim};
 use syn_mid::verbatim::{
     BoundLifetimes, GenericArgument, GenericParam, Generics, Pat, PatType, Path, ReturnType, Type,
@@ -40,17 +39,6 @@ fn typed(alloc: Global, input: &mut ParseStream<'_>) -> Result<PatType, Error> {
     input.parse::<PatType>(alloc)
 }
 
-fn each<T: Parse + HoldsVerbatim + Drop>(
-    rt: &impl Abort,
-    alloc: Global,
-    texts: &[&str],
-    wanted: &str,
-) {
-    for text in texts {
-        says(rt, alloc, in_tree::<T>(alloc, text), wanted);
-    }
-}
-
 #[test]
 fn types(rt: HostRuntime) {
     let alloc = rt.alloc();
@@ -64,7 +52,9 @@ fn types(rt: HostRuntime) {
         "<A as B<C>>::D",
         "fn(x: A, ...) -> (B, [C], *const D)",
     ];
-    each::<Type>(&rt, alloc, &none, "none");
+    for text in none {
+        says(&rt, alloc, in_tree::<Type>(alloc, text), "none");
+    }
     let held = [
         "builtin # x(y)",
         "unsafe<'a> A",
@@ -85,38 +75,78 @@ fn types(rt: HostRuntime) {
         "for<T = builtin # x(y)> fn()",
         "A(builtin # x(y))",
     ];
-    each::<Type>(&rt, alloc, &held, "held");
+    for text in held {
+        says(&rt, alloc, in_tree::<Type>(alloc, text), "held");
+    }
 }
 
 #[test]
 fn parts_of_types(rt: HostRuntime) {
     let alloc = rt.alloc();
-    each::<Path>(&rt, alloc, &["a::b<C>"], "none");
-    each::<Path>(&rt, alloc, &["a::b<builtin # x(y)>::c"], "held");
-    each::<GenericArgument>(&rt, alloc, &["'a", "A", "3", "A = B"], "none");
-    each::<GenericArgument>(&rt, alloc, &["builtin # x(y)", "A = unsafe<> B"], "held");
-    each::<ReturnType>(&rt, alloc, &["", "-> A"], "none");
-    each::<ReturnType>(&rt, alloc, &["-> builtin # x(y)"], "held");
-    each::<TypeFnPtr>(&rt, alloc, &["fn(self)"], "none");
-    each::<TypeFnPtr>(&rt, alloc, &["fn(mut self: A)", "fn(x: mut self)"], "held");
-    each::<TypeParamBound>(&rt, alloc, &["'a", "?Sized", "use<'a, T>", "A(B) -> C"], "none");
-    each::<TypeParamBound>(&rt, alloc, &["A(B) -> builtin # x(y)"], "held");
+    for text in ["a::b<C>"] {
+        says(&rt, alloc, in_tree::<Path>(alloc, text), "none");
+    }
+    for text in ["a::b<builtin # x(y)>::c"] {
+        says(&rt, alloc, in_tree::<Path>(alloc, text), "held");
+    }
+    for text in ["'a", "A", "3", "A = B"] {
+        says(&rt, alloc, in_tree::<GenericArgument>(alloc, text), "none");
+    }
+    for text in ["builtin # x(y)", "A = unsafe<> B"] {
+        says(&rt, alloc, in_tree::<GenericArgument>(alloc, text), "held");
+    }
+    for text in ["", "-> A"] {
+        says(&rt, alloc, in_tree::<ReturnType>(alloc, text), "none");
+    }
+    for text in ["-> builtin # x(y)"] {
+        says(&rt, alloc, in_tree::<ReturnType>(alloc, text), "held");
+    }
+    for text in ["fn(self)"] {
+        says(&rt, alloc, in_tree::<TypeFnPtr>(alloc, text), "none");
+    }
+    for text in ["fn(mut self: A)", "fn(x: mut self)"] {
+        says(&rt, alloc, in_tree::<TypeFnPtr>(alloc, text), "held");
+    }
+    for text in ["'a", "?Sized", "use<'a, T>", "A(B) -> C"] {
+        says(&rt, alloc, in_tree::<TypeParamBound>(alloc, text), "none");
+    }
+    for text in ["A(B) -> builtin # x(y)"] {
+        says(&rt, alloc, in_tree::<TypeParamBound>(alloc, text), "held");
+    }
 }
 
 #[test]
 fn generics(rt: HostRuntime) {
     let alloc = rt.alloc();
-    each::<GenericParam>(&rt, alloc, &["'a: 'b", "T: A = B", "const N: A = 3"], "none");
+    for text in ["'a: 'b", "T: A = B", "const N: A = 3"] {
+        says(&rt, alloc, in_tree::<GenericParam>(alloc, text), "none");
+    }
     let held = ["T = builtin # x(y)", "T: A<builtin # x(y)>", "const N: builtin # x(y)"];
-    each::<GenericParam>(&rt, alloc, &held, "held");
-    each::<BoundLifetimes>(&rt, alloc, &["for<'a>"], "none");
-    each::<Generics>(&rt, alloc, &["", "<'a, T: A>"], "none");
-    each::<Generics>(&rt, alloc, &["<'a, T: A<builtin # x(y)>>"], "held");
-    each::<WherePredicate>(&rt, alloc, &["'a: 'b", "for<'a> &'a T: A"], "none");
+    for text in held {
+        says(&rt, alloc, in_tree::<GenericParam>(alloc, text), "held");
+    }
+    for text in ["for<'a>"] {
+        says(&rt, alloc, in_tree::<BoundLifetimes>(alloc, text), "none");
+    }
+    for text in ["", "<'a, T: A>"] {
+        says(&rt, alloc, in_tree::<Generics>(alloc, text), "none");
+    }
+    for text in ["<'a, T: A<builtin # x(y)>>"] {
+        says(&rt, alloc, in_tree::<Generics>(alloc, text), "held");
+    }
+    for text in ["'a: 'b", "for<'a> &'a T: A"] {
+        says(&rt, alloc, in_tree::<WherePredicate>(alloc, text), "none");
+    }
     let held = ["builtin # x(y): A", "T: A<builtin # x(y)>", "for<T = builtin # x(y)> U: A"];
-    each::<WherePredicate>(&rt, alloc, &held, "held");
-    each::<WhereClause>(&rt, alloc, &["where T: A, U: B"], "none");
-    each::<WhereClause>(&rt, alloc, &["where T: A, builtin # x(y): B"], "held");
+    for text in held {
+        says(&rt, alloc, in_tree::<WherePredicate>(alloc, text), "held");
+    }
+    for text in ["where T: A, U: B"] {
+        says(&rt, alloc, in_tree::<WhereClause>(alloc, text), "none");
+    }
+    for text in ["where T: A, builtin # x(y): B"] {
+        says(&rt, alloc, in_tree::<WhereClause>(alloc, text), "held");
+    }
 }
 
 #[test]
