@@ -73,7 +73,7 @@ fn types(rt: HostRuntime) {
         "fn(A) -> builtin # x(y)",
         "fn(mut self)",
         "for<T = builtin # x(y)> fn()",
-        "A(builtin # x(y))",
+        "dyn A(builtin # x(y))",
     ];
     for text in held {
         says(&rt, alloc, in_tree::<Type>(alloc, text), "held");
