@@ -7,8 +7,7 @@ ghost use Rattle.syn_plain.specs.held.Types.{some};
 
 use crate::held::HoldsVerbatim;
 use syn_pat::pat::{
-    FieldPatOf, PatIdentOf, PatOf, PatPathOf, PatRangeBoundOf, PatRangeOf, PatStructOf,
-    PatTupleStructOf, PatTypeOf,
+    FieldPatOf, PatIdentOf, PatOf, PatPathOf, PatRangeBoundOf, PatRangeOf, PatTypeOf,
 };
 use token_core::token::{Comma, Or};
 use token_core::{Boxed, Punctuated};
@@ -33,16 +32,20 @@ fn holds_pat<A, P: HoldsVerbatim, Q: HoldsVerbatim, T: HoldsVerbatim, X>(
         PatOf::Range(range) => range.holds_verbatim(),
         PatOf::Reference(reference) => holds_pat(reference.pat.get()),
         PatOf::Slice(slice) => holds_pats(&slice.elems),
-        PatOf::Struct(fields) => holds_struct(fields),
+        PatOf::Struct(pat) => {
+            pat.qself.holds_verbatim() || pat.path.holds_verbatim() || holds_fields(&pat.fields)
+        }
         PatOf::Tuple(tuple) => holds_pats(&tuple.elems),
-        PatOf::TupleStruct(tuple) => holds_tuple_struct(tuple),
+        PatOf::TupleStruct(pat) => {
+            pat.qself.holds_verbatim() || pat.path.holds_verbatim() || holds_pats(&pat.elems)
+        }
         PatOf::Type(typed) => holds_typed(typed),
         PatOf::Verbatim(_) => true,
     }
 }
 
 #[cycle(pats)]
-#[tactic(auto, using(crate::proofs::plain_laws::PatHeld::holds))]
+#[tactic(auto, using(crate::proofs::plain_laws::Some::some_append))]
 fn holds_pats<A, P: HoldsVerbatim, Q: HoldsVerbatim, T: HoldsVerbatim, X>(
     pats: &Punctuated<PatOf<A, P, Q, T, X>, Comma>,
 ) -> bool
@@ -57,7 +60,7 @@ fn holds_pats<A, P: HoldsVerbatim, Q: HoldsVerbatim, T: HoldsVerbatim, X>(
 }
 
 #[cycle(pats)]
-#[tactic(auto, using(crate::proofs::plain_laws::PatHeld::holds))]
+#[tactic(auto, using(crate::proofs::plain_laws::Some::some_append))]
 fn holds_cases<A, P: HoldsVerbatim, Q: HoldsVerbatim, T: HoldsVerbatim, X>(
     cases: &Punctuated<PatOf<A, P, Q, T, X>, Or>,
 ) -> bool
@@ -86,17 +89,6 @@ fn holds_binding<A, P: HoldsVerbatim, Q: HoldsVerbatim, T: HoldsVerbatim, X>(
 
 #[cycle(pats)]
 #[tactic(auto, using(crate::proofs::plain_laws::PatHeld::holds))]
-fn holds_struct<A, P: HoldsVerbatim, Q: HoldsVerbatim, T: HoldsVerbatim, X>(
-    pat: &PatStructOf<PatOf<A, P, Q, T, X>, A, P, Q>,
-) -> bool
-    ensures { result ≡ some (spec.named P.held Q.held pat.now.qself pat.now.path
-        ++ each (spec.field P.held Q.held T.held) pat.now.fields.0) }
-{
-    pat.qself.holds_verbatim() || pat.path.holds_verbatim() || holds_fields(&pat.fields)
-}
-
-#[cycle(pats)]
-#[tactic(auto, using(crate::proofs::plain_laws::PatHeld::holds))]
 fn holds_fields<A, P: HoldsVerbatim, Q: HoldsVerbatim, T: HoldsVerbatim, X>(
     fields: &Punctuated<FieldPatOf<PatOf<A, P, Q, T, X>, A>, Comma>,
 ) -> bool
@@ -108,17 +100,6 @@ fn holds_fields<A, P: HoldsVerbatim, Q: HoldsVerbatim, T: HoldsVerbatim, X>(
         }
     }
     false
-}
-
-#[cycle(pats)]
-#[tactic(auto, using(crate::proofs::plain_laws::PatHeld::holds))]
-fn holds_tuple_struct<A, P: HoldsVerbatim, Q: HoldsVerbatim, T: HoldsVerbatim, X>(
-    pat: &PatTupleStructOf<PatOf<A, P, Q, T, X>, A, P, Q>,
-) -> bool
-    ensures { result ≡ some (spec.named P.held Q.held pat.now.qself pat.now.path
-        ++ each (spec.pat P.held Q.held T.held) pat.now.elems.0) }
-{
-    pat.qself.holds_verbatim() || pat.path.holds_verbatim() || holds_pats(&pat.elems)
 }
 
 #[cycle(pats)]
