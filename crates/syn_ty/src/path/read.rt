@@ -605,8 +605,7 @@ impl<
             result input.old input.new }
         ensures fewer { ahead input.new ≤ ahead input.old }
     {
-        // both tested, so that the answer is one value
-        if !(takes_signature(&path) & peek_signature(input)) {
+        if !(takes_signature(&path) && peek_signature(input)) {
             return Ok(path);
         }
         let signature = self.signature_after(input)?;

@@ -99,10 +99,10 @@ impl<
             result input.old input.new }
         ensures fewer { ahead input.new ≤ ahead input.old }
     {
-        if sees_call(input) & path.is_mod_style() {
+        if sees_call(input) && path.is_mod_style() {
             return macro_after(self.alloc, input, &path);
         }
-        if lifetimes.is_some() | plus_follows(input, plus) {
+        if lifetimes.is_some() || plus_follows(input, plus) {
             return self.path_object(input, plus, lifetimes, path);
         }
         let ty = bare_path_type(self.alloc, None, path);
