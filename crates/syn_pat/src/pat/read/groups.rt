@@ -140,7 +140,7 @@ impl<
             return Ok(InParens::Elements(Punctuated::new(self.alloc)));
         }
         let first = self.patterns().boxed(input, PatPlace::LeadingVert)?;
-        if input.is_empty() & !first.get().is_rest() {
+        if input.is_empty() && !first.get().is_rest() {
             return Ok(InParens::One(first));
         }
         let elems = self

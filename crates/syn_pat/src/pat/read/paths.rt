@@ -124,7 +124,7 @@ impl<
             (knot.pats_below X.reads (named Q.reads G.is_absent) (length self.now.begin)) qself path)
             result input.old input.new }
     {
-        if qself.is_none() & (sees_call(input) & path.is_mod_style()) {
+        if qself.is_none() && (sees_call(input) && path.is_mod_style()) {
             return parse_macro_after(self.alloc, input, &path);
         }
         if input.peek::<Brace>() {

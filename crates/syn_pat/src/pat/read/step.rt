@@ -68,7 +68,7 @@ fn open_range<X: Subtree, G: Arguments, Q: Qualifier<G>, T: Drop>(
 {
     match pat {
         PatOf::Range(range) => {
-            if range.start.is_none() | range.end.is_none() {
+            if range.start.is_none() || range.end.is_none() {
                 return Some(limits_span(&range.limits));
             }
             None
@@ -209,7 +209,7 @@ impl<
             (knot.pats_below X.reads (named Q.reads G.is_absent) (length self.now.begin)) leading_vert first)
             result input.old input.new }
     {
-        if !(leading_vert.is_some() | sees_vert(input)) {
+        if !(leading_vert.is_some() || sees_vert(input)) {
             return Ok(first);
         }
         let cases = self
