@@ -4,7 +4,7 @@ use Rattle.std.proofs.lemmas.Bool.Decides.{nat_tests}
 use Rattle.std.specs.Char.{is_ascii_alphabetic, is_ascii_alphanumeric, is_ascii_digit}
 use Rattle.std.specs.List.{list_any}
 use Rattle.unicode_ident.proofs.IdentLemmas.{is_xid_start-ascii, is_xid_continue-ascii}
-use Rattle.token_text.specs.Characters.{is_blank, is_mark, is_letter, is_start, is_continue}
+use Rattle.token_text.specs.Characters.{is_blank, is_mark, stands_alone, starts_word, is_letter, is_start, is_continue}
 
 pub same_number : (d c : ℕ) → (d == c) ≡ true → d ≡ c
 same_number d c h = grind (arith, nat_tests)
@@ -83,6 +83,9 @@ lone_digit c h = off (is_ascii_digit c) (right (no_letter c && not (list_any (λ
 pub blank_lone : (c : ℕ) → is_blank c ≡ true → lone c ≡ true
 blank_lone c h = listed lone c (codes " \t\n\r") h refl
 
+pub alone_lone : (c : ℕ) → stands_alone c ≡ true → lone c ≡ true
+alone_lone c h = listed lone c (codes "!#$%&()*+,-.:;<=>?@[]^{|}~") h refl
+
 or_right : (a b : Bool) → (a || b) ≡ true → a ≡ false → b ≡ true
 or_right true b h e = cc
 or_right false b h e = h
@@ -104,6 +107,13 @@ no_digit_starts c h =
       | true ↦ λ e. (let bad = sym h ∙ no_start c (digit_no_letter c e) in cc)
       | false ↦ λ _. refl
     ] in f refl
+
+pub word_start : (c : ℕ) → starts_word c ≡ true → is_start c ≡ true
+unfolding is_start
+word_start c h =
+    let e : (is_ascii_alphabetic c || c == 95) ≡ true = left _ _ (left _ _ (left _ _ h)) in
+    let small : c < 128 = grind (arith, nat_tests) in
+    rw (is_xid_start-ascii c small) e
 
 pub start_r : is_start 114 ≡ true
 unfolding is_start

@@ -7,7 +7,7 @@ use Rattle.token_core.specs.declared.tree.Delimiter.{Delimiter}
 use Rattle.token_core.specs.declared.tree.Delimiter.TheVariants as delimiters
 use Rattle.token_core.specs.declared.tree.LitKind.{LitKind}
 use Rattle.token_core.specs.declared.tree.LitKind.TheVariants.{Char}
-use Rattle.token_text.specs.declared.class.Class.TheVariants.{NoLineFeed}
+use Rattle.token_text.specs.declared.class.Class.TheVariants.{Continue, NoLineFeed}
 use Rattle.token_text.specs.declared.piece.Closing.{Closing}
 use Rattle.token_text.specs.declared.piece.Docs.{Docs}
 use Rattle.token_text.specs.declared.piece.Docs.TheVariants.{Refuse, Read}
@@ -16,15 +16,15 @@ use Rattle.token_text.specs.declared.piece.Closing.TheVariants.{Quote}
 use Rattle.token_text.specs.declared.piece.Leaf.TheVariants.{Blank, Doc, Word, Lifetime, Literal}
 use Rattle.token_text.specs.declared.piece.Piece.{Piece}
 use Rattle.token_text.specs.declared.piece.Piece.TheVariants.{Leaf, Open, Close}
-use Rattle.token_text.specs.Characters.{Text, upto, begins_with, is_blank, is_mark, is_start, after_run}
+use Rattle.token_text.specs.Characters.{Text, upto, begins_with, is_blank, is_mark, stands_alone, starts_word, is_start, after_run}
 use Rattle.token_text.specs.Front.{Look, Opening, opening, closed, comment, after_suffix, ends, known, lifetime_piece, mark_piece, marked, numeral, number, any_word, before, single, word_or_single, line_comment, block_comment, slash, backslash, plain, unopened, other, opened_or_other, look, Found, found, front}
 use Rattle.token_text.specs.Front as f
 use Rattle.token_text.specs.Literals.{Run, IsAnyWord, Opens, Closes, IsComment}
 use Rattle.token_text.specs.Pieces.{begins_char, is_char, begins_comment, is_line_doc, is_block_doc, style_of, has_lone_return}
 use Rattle.token_text.specs.Spelling as rules
 use Rattle.token_text.specs.Spelling.{opens, closes, begins_byte, NoLiteral, IsPiece, Begins, Named, no_end, no_comment_end, no_doc_end, line_doc_refused, block_doc_refused, malformed, Faulty}
-use Rattle.token_text.proofs.CharacterLaws.{same_number, which, listed, off, lone, lone_starts, lone_digit, clash, start_clash, mark_lone, blank_lone, no_digit_starts}
-use Rattle.token_text.proofs.RunLaws.{run_is, run_only, AnyWordSaid, any_word_said, any_word_only, any_word_starts, no_word, suffix_is, suffix_only}
+use Rattle.token_text.proofs.CharacterLaws.{same_number, which, listed, off, lone, lone_starts, lone_digit, clash, start_clash, mark_lone, alone_lone, blank_lone, word_start, no_digit_starts}
+use Rattle.token_text.proofs.RunLaws.{run_is, run_only, AnyWordSaid, any_word_said, any_word_only, any_word_starts, no_word, plain_word, suffix_is, suffix_only}
 use Rattle.token_text.proofs.LiteralLaws.{first_is, second_is, OpeningSaid, opening_said, opening_only, ClosedSaid, closed_said, closed_only}
 use Rattle.token_text.proofs.NumberLaws.{NumberSaid, number_said, number_of, number_only_of, malformed_of, Digit, number_digit, malformed_digit}
 use Rattle.token_text.proofs.CommentLaws.{CommentSaid, comment_said, comment_only}
@@ -213,6 +213,9 @@ module _ (docs : Docs) where
   lone_look : (c : ℕ) (cs : Text) → lone c ≡ true → look docs (c ∷ cs) ≡ before cs (single c cs)
   lone_look c cs h = look_other (c ∷ cs) (lone_opening c cs h) ∙ lone_unopened c cs h
 
+  pub alone_look : (cs ds : Text) (c : ℕ) → cs ≡ c ∷ ds → stands_alone c ≡ true → look docs cs ≡ before ds (single c ds)
+  alone_look cs ds c e h = ap (look docs) e ∙ lone_look c ds (alone_lone c h)
+
   single_blank : (c : ℕ) (cs : Text) → is_blank c ≡ true → single c cs ≡ Ok (Leaf Blank)
   unfolding single
   single_blank c cs h = rw h refl
@@ -283,6 +286,27 @@ module _ (docs : Docs) where
   word_look : (cs rest : Text) → IsAnyWord cs rest → NoLiteral cs → look docs cs ≡ Ok (Leaf Word, rest)
   word_look cs rest w n =
       look_other cs (none_opens cs (opening cs) (opening_said cs) n) ∙ word_unopened cs rest (any_word_starts w) n.no_byte (any_word_only w)
+
+  plain_word_opening : (c : ℕ) (cs : Text) → starts_word c ≡ true → opening (c ∷ cs) ≡ None
+  unfolding opening
+  plain_word_opening c cs h =
+      rw (
+        clash starts_word c 34 h refl,
+        clash starts_word c 39 h refl,
+        clash starts_word c 114 h refl,
+        clash starts_word c 98 h refl,
+        clash starts_word c 99 h refl,
+      ) refl
+
+  no_byte_begins : (c : ℕ) (cs : Text) → (c == 98) ≡ false → begins_byte (c ∷ cs) ≡ false
+  no_byte_begins c cs h = rw h refl
+
+  pub plain_word_look : (cs ds rest : Text) (c : ℕ) → cs ≡ c ∷ ds → starts_word c ≡ true → rest ≡ after_run Continue ds → look docs cs ≡ Ok (Leaf Word, rest)
+  plain_word_look cs ds rest c e h k =
+      let start = word_start c h in
+      let word = plain_word c ds start (clash starts_word c 114 h refl) ∙ ap Some (sym k) in
+      ap (look docs) e ∙ look_other (c ∷ ds) (plain_word_opening c ds h)
+          ∙ word_unopened (c ∷ ds) rest start (no_byte_begins c ds (clash starts_word c 98 h refl)) word
 
   lifetime_look : (cs rest : Text) → begins_char cs ≡ false → IsAnyWord cs rest → look docs (39 ∷ cs) ≡ Ok (Leaf Lifetime, rest)
   unfolding look opening unopened

@@ -130,6 +130,11 @@ pub no_word : (c : ℕ) (cs : Text) → is_start c ≡ false → (c == 114) ≡ 
 unfolding any_word raw_word word
 no_word c cs h k = rw (no_raw_mark c cs k, h) refl
 
+-- nor a raw one with another character than `r`
+pub plain_word : (c : ℕ) (cs : Text) → is_start c ≡ true → (c == 114) ≡ false → any_word (c ∷ cs) ≡ Some (after_run Continue cs)
+unfolding any_word raw_word word
+plain_word c cs h k = rw (no_raw_mark c cs k, h) refl
+
 -- ---- suffixes
 
 pub suffix_is : (cs : Text) → IsSuffix cs (after_suffix cs)

@@ -1,6 +1,6 @@
 -- Texts by their characters, and what the characters are to a text of Rust.
-use Rattle.std.specs.Prelude.{ℕ, Bool, true, false, not, ◌||◌, ◌-◌, ◌==◌, if◌then◌else◌, List, [], ◌∷◌, length, take, codes, encode_utf8_all}
-use Rattle.std.specs.Char.{is_ascii_digit, is_ascii_hexdigit}
+use Rattle.std.specs.Prelude.{ℕ, Bool, true, false, not, ◌&&◌, ◌||◌, ◌-◌, ◌==◌, if◌then◌else◌, List, [], ◌∷◌, length, take, codes, encode_utf8_all}
+use Rattle.std.specs.Char.{is_ascii_alphabetic, is_ascii_digit, is_ascii_hexdigit}
 use Rattle.std.specs.List.{list_any}
 use Rattle.unicode_ident.specs.Ident.{is_xid_start, is_xid_continue}
 use Rattle.token_text.specs.declared.class.Class.{Class}
@@ -32,6 +32,14 @@ is_blank c = list_any (λ d. d == c) (codes " \t\n\r")
 -- a mark by itself
 abbrev pub is_mark : ℕ → Bool
 is_mark c = list_any (λ d. d == c) (codes "!#$%&*+,-./:;<=>?@^~|")
+
+-- a mark but `/`, or a bracket: no longer piece begins with it
+abbrev pub stands_alone : ℕ → Bool
+stands_alone c = list_any (λ d. d == c) (codes "!#$%&()*+,-.:;<=>?@[]^{|}~")
+
+-- a word begins with it, and nothing else does
+abbrev pub starts_word : ℕ → Bool
+starts_word c = (((is_ascii_alphabetic c || c == 95) && not (c == 98)) && not (c == 99)) && not (c == 114)
 
 -- a suffix may begin so
 unfoldable pub is_letter : ℕ → Bool

@@ -31,6 +31,21 @@ pub fn is_blank(ch: char) -> bool
     matches!(ch, ' ' | '\t' | '\n' | '\r')
 }
 
+/// Whether no longer piece begins so: a mark but `/`, or a bracket.
+pub fn stands_alone(ch: char) -> bool
+    ensures { result ≡ c.stands_alone ch }
+{
+    matches!(ch, '!' | '#'..='&' | '('..='.' | ':'..='@' | '[' | ']' | '^' | '{'..='~')
+}
+
+/// Whether a word begins so and nothing else: with `b`, `c` and `r` literals begin too.
+pub fn starts_word(ch: char) -> bool
+    ensures { result ≡ c.starts_word ch }
+{
+    // `|` and `&` in place of `||` and `&&`, for one value to prove by
+    (ch.is_ascii_alphabetic() | (ch == '_')) & (ch != 'b') & (ch != 'c') & (ch != 'r')
+}
+
 /// Whether a suffix may begin so. Most are of ASCII, for which no table is asked.
 #[tactic(auto, using(crate::proofs::CharacterLaws::letter_ascii), unfolding(crate::specs::Characters::is_letter))]
 pub fn is_letter(ch: char) -> bool

@@ -5,7 +5,7 @@ ghost use Rattle.token_text.specs.Characters as c;
 ghost use Rattle.token_text.specs.Front as spec;
 ghost use Rattle.token_text.specs.Pieces as pieces;
 
-use crate::class::is_blank;
+use crate::class::{Class, is_blank, stands_alone, starts_word};
 use crate::piece::{Closing, Docs, Leaf, Piece};
 use crate::{comment, literal, number, word};
 use token_core::{Delimiter, ErrorKind, LitKind, Spacing};
@@ -17,6 +17,7 @@ fn is_mark(ch: char) -> bool
 }
 
 /// Whether a mark belongs with what follows it.
+#[inline(always)]
 #[tactic(auto, unfolding(crate::specs::Pieces::spacing))]
 fn spacing(rest: &str) -> Spacing
     ensures { result ≡ pieces.spacing (chars rest.now) }
@@ -28,6 +29,7 @@ fn spacing(rest: &str) -> Spacing
     }
 }
 
+#[inline(always)]
 fn mark(ch: char, rest: &str) -> Piece
     ensures { result ≡ spec.mark_piece ch (chars rest.now) }
 {
@@ -61,6 +63,7 @@ fn backslash(rest: &str) -> Result<(Piece, &str), ErrorKind>
 }
 
 /// The piece of one character that this one is before `rest`.
+#[inline(always)]
 #[tactic(auto, unfolding(crate::specs::Front::single))]
 fn single(ch: char, rest: &str) -> Result<Piece, ErrorKind>
     ensures { result ≡ spec.single ch (chars rest.now) }
@@ -162,16 +165,60 @@ fn enclosed(kind: LitKind, closing: Closing, body: &str) -> Result<(Piece, &str)
     }
 }
 
-/// The longest piece at the front and what follows it, or why none begins there.
+/// A piece of one character, before `rest`, and what follows it.
+#[inline(always)]
+#[tactic(auto, using(crate::proofs::Pasts::pasts))]
+fn alone(ch: char, rest: &str) -> Result<(Piece, &str), ErrorKind>
+    ensures { spec.Tells (spec.before (chars rest.now) (spec.single ch (chars rest.now))) rest.now result }
+{
+    Ok((single(ch, rest)?, rest))
+}
+
+/// What may begin as a literal does; `text` is the character and `rest`.
 #[tactic(auto, using(crate::proofs::Pasts::pasts), unfolding(crate::specs::Front::look))]
+fn longer<'a>(
+    text: &'a str,
+    first: char,
+    rest: &'a str,
+    docs: Docs,
+) -> Result<(Piece, &'a str), ErrorKind>
+    requires { (chars text.now ≡ first ∷ chars rest.now) × spec.Past text.now rest.now }
+    ensures { spec.Tells (spec.look docs (chars text.now)) text.now result }
+{
+    match literal::opening(text) {
+        Some((kind, closing, body)) => enclosed(kind, closing, body),
+        None => unopened(text, first, rest, docs),
+    }
+}
+
+/// The piece that begins with this character, before `rest`; most are told by it alone.
+#[inline(always)]
+fn begun<'a>(
+    text: &'a str,
+    first: char,
+    rest: &'a str,
+    docs: Docs,
+) -> Result<(Piece, &'a str), ErrorKind>
+    requires { (chars text.now ≡ first ∷ chars rest.now) × spec.Past text.now rest.now }
+    ensures { spec.Tells (spec.look docs (chars text.now)) text.now result }
+{
+    if stands_alone(first) {
+        alone(first, rest)
+    } else if starts_word(first) {
+        Ok((Piece::Leaf(Leaf::Word), word::after_run(rest, Class::Continue)))
+    } else {
+        longer(text, first, rest, docs)
+    }
+}
+
+/// The longest piece at the front and what follows it, or why none begins there.
+#[inline(always)]
+#[tactic(auto, unfolding(crate::specs::Front::look, crate::specs::Front::opening))]
 pub fn front(text: &str, docs: Docs) -> Result<(Piece, &str), ErrorKind>
     ensures { spec.Tells (spec.look docs (chars text.now)) text.now result }
 {
-    if let Some((kind, closing, body)) = literal::opening(text) {
-        return enclosed(kind, closing, body);
-    }
     match word::split_first(text) {
-        Some((first, rest)) => unopened(text, first, rest, docs),
+        Some((first, rest)) => begun(text, first, rest, docs),
         None => Err(ErrorKind::UnknownToken),
     }
 }

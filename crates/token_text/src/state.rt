@@ -15,7 +15,7 @@ use token_core::{
     TokenStream, TokenTree,
 };
 
-/// For how many trees an open group has room at first. Few groups hold more, and its list is copied once it is closed.
+/// For how many trees an open group has room at first. Few groups hold more, and what is left is given back once it is closed.
 const ROOM: usize = 8;
 
 /// A group whose closing bracket is still to come.
@@ -49,6 +49,18 @@ fn is_same(a: Delimiter, b: Delimiter) -> bool
     ensures { result ≡ spec.same a b }
 {
     a == b
+}
+
+/// The same trees, in no more room than they need; refused, they are dropped.
+fn fitted(trees: TokenStream) -> Result<TokenStream, AllocError>
+    ensures { IfOk result (λ it. it ≡ trees) }
+{
+    let mut trees = trees.into_vec();
+    trees.shrink_to_fit();
+    if trees.len() < trees.capacity() {
+        return Err(AllocError);
+    }
+    Ok(Items::from_vec(trees))
 }
 
 impl State {
@@ -152,7 +164,7 @@ impl State {
     {
         match self.open_groups.pop() {
             Some(open) if is_same(open.delimiter, delimiter) => {
-                let content = mem::replace(&mut self.trees, open.before);
+                let content = fitted(mem::replace(&mut self.trees, open.before))?;
                 let span = DelimSpan::new(open.span, span);
                 let group = Group::shared(self.alloc, delimiter, content, span)?;
                 Ok(self.trees.push(TokenTree::Group(group))?)

@@ -72,6 +72,7 @@ pub fn begins(text: &str, ch: char) -> bool
 }
 
 /// What follows the characters of a class.
+#[inline(always)]
 #[tactic(auto, using(crate::proofs::Pasts::pasts))]
 pub fn after_run(text: &str, class: Class) -> &str
     ensures rest { chars result.now ≡ c.after_run class (chars text.now) }
