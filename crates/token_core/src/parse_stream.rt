@@ -358,9 +358,6 @@ impl<'a> ParseStream<'a> {
         ensures parses { Parses (spec.read_mark marks.now name.now) result self.old self.new }
         ensures same { OnErr result (self.new ≡ self.old) }
     {
-        if !self.peek_mark(marks) {
-            return Err(self.expected(alloc, name));
-        }
         match past_mark(self.place(), marks, 0) {
             Some((spans, more)) => {
                 *self = self.past(more, spans.third);

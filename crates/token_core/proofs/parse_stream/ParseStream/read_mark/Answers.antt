@@ -1,8 +1,7 @@
-use Rattle.std.proofs.Common.{◌≡◌, false, Some, Err, sym, ap, ◌∙◌, rules, arith}
+use Rattle.std.proofs.Common.{◌≡◌, Some, rules, arith}
 use Rattle.std.proofs.lemmas.Grind.{common_steps}
-use Rattle.token_core.specs.Reads.{past_mark, read_mark, sees_mark, expected}
-use Rattle.token_core.proofs.Suffixes.{suffix_mark, follows_past, follows_self}
-use Rattle.token_core.proofs.SeenClasses.{mark_refused}
+use Rattle.token_core.specs.Reads.{past_mark, read_mark}
+use Rattle.token_core.proofs.Suffixes.{suffix_mark, follows_past}
 use Rattle.token_core.proofs.parse_stream.ParseStream.read_mark.Goals as goal
 
 pub past-requires : goal.past-requires
@@ -15,9 +14,3 @@ unfolding read_mark
 returns-in-Some-clause-parses c =
     let e : past_mark c.args.marks.now c.args.self.now.rest ≡ Some (c.in-Some.spans, c.in-Some.more) = first_of (search rules, grind (arith, common_steps)) in
     (first_of (search rules, grind (arith, common_steps)), rw c.past.ensures (follows_past _ _ _ (suffix_mark c.args.marks.now _ _ e)))
-
-pub returns-then-not-peek_mark-clause-parses : goal.returns-then-not-peek_mark-clause-parses
-unfolding read_mark
-returns-then-not-peek_mark-clause-parses c =
-    let h : sees_mark c.args.marks.now c.args.self.now.rest ≡ false = search rules in
-    (λ k. mark_refused c.args.marks.now c.args.self.now (expected c.args.name.now c.args.self.now) h ∙ ap Err (sym (c.expected.ensures k)), follows_self _)
