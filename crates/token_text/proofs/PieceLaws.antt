@@ -306,7 +306,7 @@ module _ (docs : Docs) where
       let start = word_start c h in
       let word = plain_word c ds start (clash starts_word c 114 h refl) ∙ ap Some (sym k) in
       ap (look docs) e ∙ look_other (c ∷ ds) (plain_word_opening c ds h)
-          ∙ word_unopened (c ∷ ds) rest start (no_byte_begins c ds (clash starts_word c 98 h refl)) word
+      ∙ word_unopened (c ∷ ds) rest start (no_byte_begins c ds (clash starts_word c 98 h refl)) word
 
   lifetime_look : (cs rest : Text) → begins_char cs ≡ false → IsAnyWord cs rest → look docs (39 ∷ cs) ≡ Ok (Leaf Lifetime, rest)
   unfolding look opening unopened

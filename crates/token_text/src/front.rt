@@ -205,7 +205,10 @@ fn begun<'a>(
     if stands_alone(first) {
         alone(first, rest)
     } else if starts_word(first) {
-        Ok((Piece::Leaf(Leaf::Word), word::after_run(rest, Class::Continue)))
+        Ok((
+            Piece::Leaf(Leaf::Word),
+            word::after_run(rest, Class::Continue),
+        ))
     } else {
         longer(text, first, rest, docs)
     }
