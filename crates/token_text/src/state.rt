@@ -51,18 +51,6 @@ fn is_same(a: Delimiter, b: Delimiter) -> bool
     a == b
 }
 
-/// The same trees, in no more room than they need; refused, they are dropped.
-fn fitted(trees: TokenStream) -> Result<TokenStream, AllocError>
-    ensures { IfOk result (λ it. it ≡ trees) }
-{
-    let mut trees = trees.into_vec();
-    trees.shrink_to_fit();
-    if trees.len() < trees.capacity() {
-        return Err(AllocError);
-    }
-    Ok(Items::from_vec(trees))
-}
-
 impl State {
     pub fn new(alloc: Global) -> State
         ensures { spec.state_of result ≡ spec.start }
@@ -164,7 +152,7 @@ impl State {
     {
         match self.open_groups.pop() {
             Some(open) if is_same(open.delimiter, delimiter) => {
-                let content = fitted(mem::replace(&mut self.trees, open.before))?;
+                let content = mem::replace(&mut self.trees, open.before);
                 let span = DelimSpan::new(open.span, span);
                 let group = Group::shared(self.alloc, delimiter, content, span)?;
                 Ok(self.trees.push(TokenTree::Group(group))?)
