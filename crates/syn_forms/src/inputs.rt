@@ -101,10 +101,9 @@ fn is_other(name: &Name) -> bool
 }
 
 /// `x:`
-#[tactic(auto, using(token_core::proofs::Suffixes::follows, crate::proofs::nested_laws::Ahead::later), unfolding(crate::specs::inputs::Reading::name))]
+#[tactic(auto, using(token_core::proofs::Suffixes::follows), unfolding(crate::specs::inputs::Reading::name))]
 fn parse_name(alloc: Global, input: &mut ParseStream<'_>) -> Result<(Ident, Colon), Error>
     ensures parses { Parses reading.name result input.old input.new }
-    ensures fewer { ahead input.new ≤ ahead input.old }
 {
     let ident = parse_any_ident(alloc, input)?;
     let colon_token = parse_colon(alloc, input)?;
@@ -112,14 +111,13 @@ fn parse_name(alloc: Global, input: &mut ParseStream<'_>) -> Result<(Ident, Colo
 }
 
 /// A name that may be there.
-#[tactic(auto, using(token_core::proofs::Suffixes::follows, crate::proofs::nested_laws::Ahead::later))]
+#[tactic(auto, using(token_core::proofs::Suffixes::follows))]
 pub fn parse_optional_name(
     alloc: Global,
     input: &mut ParseStream<'_>,
     own: bool,
 ) -> Result<Name, Error>
     ensures parses { Parses (optional (reading.sees_name own) reading.name) result input.old input.new }
-    ensures fewer { ahead input.new ≤ ahead input.old }
 {
     if sees_name(input, own) {
         return Ok(Some(parse_name(alloc, input)?));
@@ -128,7 +126,7 @@ pub fn parse_optional_name(
 }
 
 /// `mut self`, held as it was written with what was read before it.
-#[tactic(auto, using(token_core::proofs::Suffixes::follows, crate::proofs::verbatim_laws::Reached::later, crate::proofs::nested_laws::Ahead::later))]
+#[tactic(auto, using(token_core::proofs::Suffixes::follows, crate::proofs::verbatim_laws::Reached::later))]
 fn parse_own<T: Drop, V: Verbatim<T>>(
     alloc: Global,
     from: &Cursor<'_>,
@@ -137,7 +135,6 @@ fn parse_own<T: Drop, V: Verbatim<T>>(
 ) -> Result<(Name, T), Error>
     requires reached { IsReached (position input.old) from.now }
     ensures parses { Parses (reading.own (V.verbatim verbatim) from.now) result input.old input.new }
-    ensures fewer { ahead input.new ≤ ahead input.old }
 {
     input.parse::<Mut>(alloc)?;
     input.parse::<SelfValue>(alloc)?;
@@ -174,13 +171,12 @@ impl<
     /// A type, and a name before it that may be there: `x: T`, as in syn's `NamedArg` without its attributes.
     ///
     /// A name is an identifier or `_` before a `:` that is not `::`. Refused is what the type refuses.
-    #[tactic(auto, using(token_core::proofs::Suffixes::follows, crate::proofs::nested_laws::Ahead::later), unfolding(crate::specs::inputs::Reading::plain_argument))]
+    #[tactic(auto, using(token_core::proofs::Suffixes::follows), unfolding(crate::specs::inputs::Reading::plain_argument))]
     pub fn plain_argument(&self, input: &mut ParseStream<'_>, place: P) -> Result<(Name, T), Error>
         requires nests { Nests T.read (length self.now.begin) (F.pre self.now.read) (F.post self.now.read) }
         requires few { ahead input.old < length self.now.begin }
         ensures parses { Parses (reading.plain_argument (below.held T.read (length self.now.begin) place))
             result input.old input.new }
-        ensures fewer { ahead input.new ≤ ahead input.old }
     {
         let name = parse_optional_name(self.alloc, input, false)?;
         let ty = self.value(input, place)?;
@@ -188,7 +184,7 @@ impl<
     }
 
     /// `mut self`, `mut self: T`: held as they were written, without a name.
-    #[tactic(auto, using(token_core::proofs::Suffixes::follows, token_core::proofs::Places::positions, crate::proofs::nested_laws::Ahead::later), unfolding(crate::specs::inputs::Reading::mut_self))]
+    #[tactic(auto, using(token_core::proofs::Suffixes::follows, token_core::proofs::Places::positions), unfolding(crate::specs::inputs::Reading::mut_self))]
     fn mut_self<V: Verbatim<T>>(
         &self,
         input: &mut ParseStream<'_>,
@@ -200,7 +196,6 @@ impl<
         ensures parses { Parses
             (reading.mut_self (below.held T.read (length self.now.begin) place) (V.verbatim verbatim))
             result input.old input.new }
-        ensures fewer { ahead input.new ≤ ahead input.old }
     {
         let from = input.cursor();
         input.parse::<Mut>(self.alloc)?;
@@ -215,7 +210,7 @@ impl<
     }
 
     /// A type, and a name before it that may be there and be `self`; `x: mut self` is held as it was written, without a name.
-    #[tactic(auto, using(token_core::proofs::Suffixes::follows, token_core::proofs::Places::positions, crate::proofs::nested_laws::Ahead::later), unfolding(crate::specs::inputs::Reading::named_argument))]
+    #[tactic(auto, using(token_core::proofs::Suffixes::follows, token_core::proofs::Places::positions), unfolding(crate::specs::inputs::Reading::named_argument))]
     fn named_argument<V: Verbatim<T>>(
         &self,
         input: &mut ParseStream<'_>,
@@ -227,7 +222,6 @@ impl<
         ensures parses { Parses
             (reading.named_argument (below.held T.read (length self.now.begin) place) (V.verbatim verbatim))
             result input.old input.new }
-        ensures fewer { ahead input.new ≤ ahead input.old }
     {
         let from = input.cursor();
         let name = parse_optional_name(self.alloc, input, true)?;
@@ -251,7 +245,6 @@ impl<
         ensures parses { Parses
             (reading.first_argument (below.held T.read (length self.now.begin) place) (V.verbatim verbatim))
             result input.old input.new }
-        ensures fewer { ahead input.new ≤ ahead input.old }
     {
         if sees_mut_self(input) {
             return self.mut_self(input, place, verbatim);
@@ -276,7 +269,6 @@ impl<
         ensures parses { Parses
             (reading.argument (below.held T.read (length self.now.begin) place) (V.verbatim verbatim) first)
             result input.old input.new }
-        ensures fewer { ahead input.new ≤ ahead input.old }
     {
         if first {
             self.first_argument(input, place, verbatim)
@@ -330,7 +322,7 @@ impl<
     // ---- the arguments of a function type
 
     /// What is made of each type, in parentheses and joined by commas.
-    #[tactic(auto, using(token_core::proofs::Suffixes::follows, crate::proofs::nested_laws::Ahead::later))]
+    #[tactic(auto, using(token_core::proofs::Suffixes::follows))]
     fn made_in_parens<V: Drop, K: Make<T, V>>(
         &self,
         input: &mut ParseStream<'_>,
@@ -342,7 +334,6 @@ impl<
         ensures parses { Parses
             (in_parens (reading.made_inputs (K.make make) (below.held T.read (length self.now.begin) place)))
             result input.old input.new }
-        ensures fewer { ahead input.new ≤ ahead input.old }
     {
         let (paren_token, mut content) = open_parens(self.alloc, input)?;
         let values = self.made_list(&mut content, place, make)?;
@@ -354,7 +345,7 @@ impl<
     /// syn's `ParenthesizedGenericArguments`: `(A, B) -> C`. A comma may follow the last argument.
     ///
     /// Refused are what are no parentheses, what a type refuses, and what follows an argument and is no comma.
-    #[tactic(auto, using(token_core::proofs::Suffixes::follows, crate::proofs::nested_laws::Ahead::later), unfolding(crate::specs::inputs::Reading::signature))]
+    #[tactic(auto, using(token_core::proofs::Suffixes::follows), unfolding(crate::specs::inputs::Reading::signature))]
     pub fn signature<V: Drop, K: Make<T, V>>(
         &self,
         input: &mut ParseStream<'_>,
@@ -367,7 +358,6 @@ impl<
         ensures parses { Parses (reading.signature (K.make make) (below.held T.read (length self.now.begin) value_place)
             (below.held T.read (length self.now.begin) output_place))
             result input.old input.new }
-        ensures fewer { ahead input.new ≤ ahead input.old }
     {
         let (paren_token, inputs) = self.made_in_parens(input, value_place, make)?;
         let output = self.returned(input, output_place)?;

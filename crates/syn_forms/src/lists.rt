@@ -291,7 +291,6 @@ impl<
     }
 
     /// The same of the values themselves.
-    #[tactic(auto, using(crate::proofs::nested_laws::Ahead::later))]
     fn list_after<M: Drop, S: End<M>>(
         &self,
         input: &mut ParseStream<'_>,
@@ -306,7 +305,6 @@ impl<
         ensures parses { Parses (λ s. after list (reading.list (S.stops end)
             (below.held T.read (length self.now.begin) place) (S.more end) (S.joint end) first s))
             result input.old input.new }
-        ensures fewer { ahead input.new ≤ ahead input.old }
     {
         self.made_after(input, place, Itself, end, list, first)
     }
@@ -324,13 +322,12 @@ impl<
         ensures parses { Parses (reading.list (S.stops end)
             (below.held T.read (length self.now.begin) place) (S.more end) (S.joint end) true)
             result input.old input.new }
-        ensures fewer { ahead input.new ≤ ahead input.old }
     {
         self.list_after(input, place, end, Punctuated::new(self.alloc), true)
     }
 
     /// The same, after the first value was read.
-    #[tactic(auto, using(token_core::proofs::Suffixes::follows, crate::proofs::lists_laws::Turns::begun_lists, crate::proofs::nested_laws::Ahead::later), unfolding(crate::specs::lists::Reading::list_from))]
+    #[tactic(auto, using(token_core::proofs::Suffixes::follows, crate::proofs::lists_laws::Turns::begun_lists), unfolding(crate::specs::lists::Reading::list_from))]
     pub fn list_from<M: Drop, S: End<M>>(
         &self,
         input: &mut ParseStream<'_>,
@@ -343,7 +340,6 @@ impl<
         ensures parses { Parses (reading.list_from (S.stops end)
             (below.held T.read (length self.now.begin) place) (S.more end) (S.joint end) first)
             result input.old input.new }
-        ensures fewer { ahead input.new ≤ ahead input.old }
     {
         let mut list = Punctuated::new(self.alloc);
         list.push_value(first)?;
@@ -355,7 +351,7 @@ impl<
     }
 
     /// What is made of each value, up to the end of the group: a comma is needed between them, and may follow the last.
-    #[tactic(auto, using(token_core::proofs::Suffixes::follows, crate::proofs::lists_laws::Turns::none_yet, crate::proofs::nested_laws::Ahead::later))]
+    #[tactic(auto, using(token_core::proofs::Suffixes::follows, crate::proofs::lists_laws::Turns::none_yet))]
     pub fn made_list<V: Drop, K: Make<T, V>>(
         &self,
         input: &mut ParseStream<'_>,
@@ -367,7 +363,6 @@ impl<
         ensures parses { Parses (terminated is_done
             (reading.made (K.make make) (below.held T.read (length self.now.begin) place)) tokens.comma)
             result input.old input.new }
-        ensures fewer { ahead input.new ≤ ahead input.old }
     {
         self.made_after(input, place, make, ToEnd, Punctuated::new(self.alloc), true)
     }

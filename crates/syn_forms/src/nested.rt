@@ -1,6 +1,6 @@
 //! What a form holds: trees that are read further on than the form began.
 
-ghost use Rattle.std.specs.Prelude.{◌<◌, ◌≤◌, length};
+ghost use Rattle.std.specs.Prelude.{◌<◌, length};
 ghost use Rattle.token_core.specs.Reads.{Reader, Reads, Follows, Parses};
 ghost use Rattle.syn_forms.specs.nested.Below as below;
 ghost use Rattle.syn_forms.specs.nested.Below.{Nests, ahead};
@@ -52,18 +52,16 @@ impl<
         requires nests { Nests T.read (length self.now.begin) (F.pre self.now.read) (F.post self.now.read) }
         requires few { ahead input.old < length self.now.begin }
         ensures parses { Parses (below.held T.read (length self.now.begin) place) result input.old input.new }
-        ensures fewer { ahead input.new ≤ ahead input.old }
     {
         Ok(self.boxed(input, place)?.into_inner())
     }
 
     /// The same on the heap, so that one word is at hand and dropped where what follows is refused.
-    #[tactic(auto, using(crate::proofs::nested_laws::Ahead::later), unfolding(crate::specs::nested::Below::held))]
+    #[tactic(auto, unfolding(crate::specs::nested::Below::held))]
     pub fn boxed(&self, input: &mut ParseStream<'_>, place: P) -> Result<Boxed<T>, Error>
         requires nests { Nests T.read (length self.now.begin) (F.pre self.now.read) (F.post self.now.read) }
         requires few { ahead input.old < length self.now.begin }
         ensures parses { Parses (below.held T.read (length self.now.begin) place) result input.old input.new }
-        ensures fewer { ahead input.new ≤ ahead input.old }
     {
         (self.read)(self.alloc, PhantomData, input, place)
     }

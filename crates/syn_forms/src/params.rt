@@ -20,10 +20,8 @@ use token_core::token::{Colon, Comma, Const, Eq, Gt, Lt, Plus};
 use token_core::{Boxed, Cursor, Error, Ident, Lifetime, ParseStream, Punctuated};
 
 /// A `:` that may be there: bounds follow it.
-#[tactic(auto, using(crate::proofs::nested_laws::Ahead::later))]
 fn parse_optional_colon(alloc: Global, input: &mut ParseStream<'_>) -> Result<Option<Colon>, Error>
     ensures parses { Parses (optional token.sees_colon token.colon) result input.old input.new }
-    ensures fewer { ahead input.new ≤ ahead input.old }
 {
     input.parse_option::<Colon>(alloc)
 }
@@ -105,13 +103,11 @@ pub fn parse_lifetime_parts(
 /// `<'a, 'b>`: lifetimes in angle brackets, any ones. A comma is needed between them, and may follow the last.
 ///
 /// Refused is what is no lifetime, and two of them without a comma between them.
-#[tactic(auto, using(crate::proofs::nested_laws::Ahead::later))]
 pub fn parse_angled_lifetimes(
     alloc: Global,
     input: &mut ParseStream<'_>,
 ) -> Result<(Lt, Punctuated<Lifetime, Comma>, Gt), Error>
     ensures parses { Parses (angled read_lifetime) result input.old input.new }
-    ensures fewer { ahead input.new ≤ ahead input.old }
 {
     let begin = input.cursor();
     let read = parse_held_lifetime;
@@ -133,7 +129,7 @@ impl<
     F: Fn(Global, PhantomData<T>, &mut ParseStream<'_>, P) -> Result<Boxed<T>, Error>,
 > Nested<'a, P, T, F> {
     /// The bounds of a type parameter: they stand after a `:` alone.
-    #[tactic(auto, using(token_core::proofs::Suffixes::follows, crate::proofs::nested_laws::Ahead::later))]
+    #[tactic(auto, using(token_core::proofs::Suffixes::follows))]
     fn bounds_after(
         &self,
         input: &mut ParseStream<'_>,
@@ -145,7 +141,6 @@ impl<
         ensures parses { Parses
             (reading.bounds_after reading.ends_type (below.held T.read (length self.now.begin) place) colon_token)
             result input.old input.new }
-        ensures fewer { ahead input.new ≤ ahead input.old }
     {
         match colon_token {
             Some(_) => self.list(input, place, ToTypeParamEnd),
@@ -154,13 +149,12 @@ impl<
     }
 
     /// `=` and a default, where it stands.
-    #[tactic(auto, using(token_core::proofs::Suffixes::follows, crate::proofs::nested_laws::Ahead::later), unfolding(crate::specs::params::Reading::given))]
+    #[tactic(auto, using(token_core::proofs::Suffixes::follows), unfolding(crate::specs::params::Reading::given))]
     fn default_of(&self, input: &mut ParseStream<'_>, place: P) -> Result<Option<(Eq, T)>, Error>
         requires nests { Nests T.read (length self.now.begin) (F.pre self.now.read) (F.post self.now.read) }
         requires few { ahead input.old ≤ length self.now.begin }
         ensures parses { Parses (reading.default_of (below.held T.read (length self.now.begin) place))
             result input.old input.new }
-        ensures fewer { ahead input.new ≤ ahead input.old }
     {
         if !input.peek::<Eq>() {
             return Ok(None);

@@ -123,7 +123,6 @@ impl<
         ensures parses { Parses
             (reading.named_segment G.absent (below.held G.read (length self.now.begin) tt) style ident)
             result input.old input.new }
-        ensures fewer { ahead input.new ≤ ahead input.old }
     {
         if peek_arguments(input, style) {
             let arguments = self.boxed(input, ())?;
@@ -193,14 +192,13 @@ impl<
     ///
     /// It is refused where no segment begins, and after a `::` that none follows. This is syn's `Path::parse_helper`, in the
     /// style of types its `Path::parse`.
-    #[tactic(auto, using(token_core::proofs::Suffixes::follows, crate::proofs::nested_laws::Ahead::later), unfolding(crate::specs::paths::Reading::path))]
+    #[tactic(auto, using(token_core::proofs::Suffixes::follows), unfolding(crate::specs::paths::Reading::path))]
     #[inline(never)]
     pub fn path(&self, input: &mut ParseStream<'_>, style: PathStyle) -> Result<PathOf<G>, Error>
         requires nests { Nests G.read (length self.now.begin) (F.pre self.now.read) (F.post self.now.read) }
         requires few { ahead input.old ≤ length self.now.begin }
         ensures parses { Parses (reading.path G.absent (below.held G.read (length self.now.begin) tt) style)
             result input.old input.new }
-        ensures fewer { ahead input.new ≤ ahead input.old }
         ensures ended { IfOk result (λ p. length p.segments.0 ≡ length p.segments.1 + 1) }
     {
         let leading_colon = parse_leading(self.alloc, input)?;
@@ -248,7 +246,7 @@ impl<
     ///
     /// A path that ends in a mark goes on with nothing. It is refused after a `::` that no segment follows. This is syn's
     /// `Path::parse_rest`.
-    #[tactic(auto, using(token_core::proofs::Suffixes::follows, crate::proofs::nested_laws::Ahead::later), unfolding(crate::specs::paths::Reading::rest))]
+    #[tactic(auto, using(token_core::proofs::Suffixes::follows), unfolding(crate::specs::paths::Reading::rest))]
     pub fn rest(
         &self,
         input: &mut ParseStream<'_>,
@@ -259,7 +257,6 @@ impl<
         requires few { ahead input.old ≤ length self.now.begin }
         ensures parses { Parses (reading.rest G.absent (below.held G.read (length self.now.begin) tt) style path)
             result input.old input.new }
-        ensures fewer { ahead input.new ≤ ahead input.old }
     {
         if ends_in_mark(&path) || !goes_on(input) {
             return Ok(path);
@@ -269,7 +266,7 @@ impl<
     }
 
     /// `as` and a path, that may be there.
-    #[tactic(auto, using(token_core::proofs::Suffixes::follows, crate::proofs::nested_laws::Ahead::later), unfolding(crate::specs::paths::Reading::as_path))]
+    #[tactic(auto, using(token_core::proofs::Suffixes::follows), unfolding(crate::specs::paths::Reading::as_path))]
     fn as_path(&self, input: &mut ParseStream<'_>) -> Result<Option<(As, PathOf<G>)>, Error>
         requires nests { Nests G.read (length self.now.begin) (F.pre self.now.read) (F.post self.now.read) }
         requires few { ahead input.old ≤ length self.now.begin }
@@ -290,7 +287,7 @@ impl<
     /// Its position is the number of segments between `as` and `>`. Where there is no `as` it is 0, and the `::` after `>` is the
     /// path's leading colon. The segments after `>` don't stop before parentheses. It is refused where one of `<`, the type,
     /// the path behind `as`, `>`, `::` and a segment isn't there. This is syn's `path::parsing::qpath` at a `<`.
-    #[tactic(auto, using(token_core::proofs::Suffixes::follows, crate::proofs::nested_laws::Ahead::later), unfolding(crate::specs::paths::Reading::qualified))]
+    #[tactic(auto, using(token_core::proofs::Suffixes::follows), unfolding(crate::specs::paths::Reading::qualified))]
     #[inline(never)]
     pub fn qualified<
         P: Copy,
@@ -310,7 +307,6 @@ impl<
         ensures parses { Parses (reading.qualified (below.held T.read (length types.now.begin) place)
             G.absent (below.held G.read (length self.now.begin) tt) style)
             result input.old input.new }
-        ensures fewer { ahead input.new ≤ ahead input.old }
     {
         let lt_token = parse_lt(self.alloc, input)?;
         let ty = types.boxed(input, place)?;
@@ -395,7 +391,6 @@ impl<
         ensures parses { Parses (reading.maybe_qualified (below.held T.read (length types.now.begin) place)
             G.absent (below.held G.read (length self.now.begin) tt) style)
             result input.old input.new }
-        ensures fewer { ahead input.new ≤ ahead input.old }
     {
         if input.peek::<Lt>() {
             let (qself, path) = self.qualified(types, input, place, style)?;

@@ -1,6 +1,6 @@
 //! Tokens before what a form holds: each read says that something was taken, or that nothing was given back.
 
-ghost use Rattle.std.specs.Prelude.{◌<◌, ◌≤◌, IfOk};
+ghost use Rattle.std.specs.Prelude.{◌<◌, IfOk};
 ghost use Rattle.token_core.specs.declared.tree.Delimiter.TheVariants as delimiter;
 ghost use Rattle.token_core.specs.Groups as groups;
 ghost use Rattle.token_core.specs.Fronted.{Fronted, said};
@@ -307,13 +307,12 @@ pub fn open_invisible<'a>(
 // ---- nothing is given back
 
 /// `const` or `mut`.
-#[tactic(auto, using(token_core::proofs::Suffixes::follows, crate::proofs::nested_laws::Ahead::later), unfolding(crate::specs::tokens::Reading::mutability))]
+#[tactic(auto, using(token_core::proofs::Suffixes::follows), unfolding(crate::specs::tokens::Reading::mutability))]
 pub fn parse_mutability(
     alloc: Global,
     input: &mut ParseStream<'_>,
 ) -> Result<PointerMutability, Error>
     ensures parses { Parses reading.mutability result input.old input.new }
-    ensures fewer { ahead input.new ≤ ahead input.old }
 {
     if input.peek::<Const>() {
         return Ok(PointerMutability::Const(input.parse::<Const>(alloc)?));
@@ -325,37 +324,29 @@ pub fn parse_mutability(
 }
 
 /// A lifetime that may be there.
-#[tactic(auto, using(crate::proofs::nested_laws::Ahead::later))]
 pub fn parse_lifetime(alloc: Global, input: &mut ParseStream<'_>) -> Result<Option<Lifetime>, Error>
     ensures parses { Parses read_optional_lifetime result input.old input.new }
-    ensures fewer { ahead input.new ≤ ahead input.old }
 {
     Lifetime::parse_optional_any(alloc, input)
 }
 
 /// `mut` that may be there.
-#[tactic(auto, using(crate::proofs::nested_laws::Ahead::later))]
 pub fn parse_mut(alloc: Global, input: &mut ParseStream<'_>) -> Result<Option<Mut>, Error>
     ensures parses { Parses reading.mutable result input.old input.new }
-    ensures fewer { ahead input.new ≤ ahead input.old }
 {
     input.parse_option::<Mut>(alloc)
 }
 
 /// `async` that may be there.
-#[tactic(auto, using(crate::proofs::nested_laws::Ahead::later))]
 pub fn parse_asyncness(alloc: Global, input: &mut ParseStream<'_>) -> Result<Option<Async>, Error>
     ensures parses { Parses reading.asyncness result input.old input.new }
-    ensures fewer { ahead input.new ≤ ahead input.old }
 {
     input.parse_option::<Async>(alloc)
 }
 
 /// `?` that may be there.
-#[tactic(auto, using(crate::proofs::nested_laws::Ahead::later))]
 pub fn parse_question(alloc: Global, input: &mut ParseStream<'_>) -> Result<Option<Question>, Error>
     ensures parses { Parses reading.question result input.old input.new }
-    ensures fewer { ahead input.new ≤ ahead input.old }
 {
     input.parse_option::<Question>(alloc)
 }

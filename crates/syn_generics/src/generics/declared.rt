@@ -69,10 +69,9 @@ fn sees_generics(input: &ParseStream<'_>) -> bool
 }
 
 /// Refuses generics after `where`.
-#[tactic(auto, using(token_core::proofs::Suffixes::follows, syn_forms::proofs::nested_laws::Ahead::later), unfolding(crate::specs::generics::Declared::no_generics))]
+#[tactic(auto, using(token_core::proofs::Suffixes::follows), unfolding(crate::specs::generics::Declared::no_generics))]
 fn no_generics(alloc: Global, input: &mut ParseStream<'_>) -> Result<(), Error>
     ensures parses { Parses reading.no_generics result input.old input.new }
-    ensures fewer { ahead input.new ≤ ahead input.old }
 {
     if sees_generics(input) {
         return Err(input.refuse(alloc, ErrorKind::GenericsOnWhere));

@@ -22,7 +22,6 @@ ghost use Rattle.token_core.specs.Headline.{Heads, Headline};
 ghost use Rattle.token_core.specs.Looks.{unmet};
 ghost use Rattle.token_core.specs.Reads.{Fails, Follows, Gives, Parses, Reads, forked, pure};
 ghost use Rattle.token_core.specs.Refusal.{Made};
-ghost use Rattle.token_core.specs.Stream.{Stream};
 ghost use Rattle.token_core.specs.Tokens as token;
 
 use crate::generics::{
@@ -76,14 +75,13 @@ fn no_captured(alloc: Global, input: &ParseStream<'_>, listed: bool) -> Error
 }
 
 /// A lifetime, an identifier or `Self`, by itself or in a list.
-#[tactic(auto, using(token_core::proofs::Suffixes::follows, syn_forms::proofs::nested_laws::Ahead::later))]
+#[tactic(auto, using(token_core::proofs::Suffixes::follows))]
 fn captured_or(
     alloc: Global,
     input: &mut ParseStream<'_>,
     listed: bool,
 ) -> Result<CapturedParam, Error>
     ensures parses { Parses (reading.captured_or (none_of (reading.captured_names listed))) result input.old input.new }
-    ensures fewer { ahead input.new ≤ ahead input.old }
 {
     if input.peek::<Lifetime>() {
         return Ok(CapturedParam::Lifetime(parse_any_lifetime(alloc, input)?));
@@ -106,7 +104,6 @@ fn parse_captured(alloc: Global, input: &mut ParseStream<'_>) -> Result<Captured
 #[tactic(auto, unfolding(crate::specs::generics::Reading::listed_captured))]
 fn parse_listed(alloc: Global, input: &mut ParseStream<'_>) -> Result<CapturedParam, Error>
     ensures parses { Parses reading.listed_captured result input.old input.new }
-    ensures fewer { ahead input.new ≤ ahead input.old }
 {
     captured_or(alloc, input, true)
 }
@@ -189,10 +186,9 @@ fn parse_conditional(alloc: Global, input: &mut ParseStream<'_>) -> Result<(Brac
 }
 
 /// `const` or `[const]` that may be there.
-#[tactic(auto, using(token_core::proofs::Suffixes::follows, syn_forms::proofs::nested_laws::Ahead::later), unfolding(crate::specs::generics::Reading::const_form))]
+#[tactic(auto, using(token_core::proofs::Suffixes::follows), unfolding(crate::specs::generics::Reading::const_form))]
 fn parse_const_form(alloc: Global, input: &mut ParseStream<'_>) -> Result<Option<BoundConst>, Error>
     ensures parses { Parses reading.const_form result input.old input.new }
-    ensures fewer { ahead input.new ≤ ahead input.old }
 {
     if input.peek::<Bracket>() {
         let (bracket_token, const_token) = parse_conditional(alloc, input)?;
@@ -221,14 +217,13 @@ fn not_allowed(alloc: Global, constness: BoundConst) -> Error
 }
 
 /// A `const` form that may be there; where `consts` doesn't allow one it is refused once it is read.
-#[tactic(auto, using(token_core::proofs::Suffixes::follows, syn_forms::proofs::nested_laws::Ahead::later), unfolding(crate::specs::generics::Reading::constness))]
+#[tactic(auto, using(token_core::proofs::Suffixes::follows), unfolding(crate::specs::generics::Reading::constness))]
 fn parse_constness(
     alloc: Global,
     input: &mut ParseStream<'_>,
     consts: bool,
 ) -> Result<Option<BoundConst>, Error>
     ensures parses { Parses (reading.constness consts) result input.old input.new }
-    ensures fewer { ahead input.new ≤ ahead input.old }
 {
     let constness = parse_const_form(alloc, input)?;
     if consts {
@@ -241,14 +236,13 @@ fn parse_constness(
 }
 
 /// The modifiers of a trait bound: a `const` form and `async`, each of which may be missing.
-#[tactic(auto, using(token_core::proofs::Suffixes::follows, syn_forms::proofs::nested_laws::Ahead::later), unfolding(crate::specs::generics::Reading::modifiers))]
+#[tactic(auto, using(token_core::proofs::Suffixes::follows), unfolding(crate::specs::generics::Reading::modifiers))]
 fn parse_modifiers(
     alloc: Global,
     input: &mut ParseStream<'_>,
     consts: bool,
 ) -> Result<TraitBoundModifiers, Error>
     ensures parses { Parses (reading.modifiers consts) result input.old input.new }
-    ensures fewer { ahead input.new ≤ ahead input.old }
 {
     let constness = parse_constness(alloc, input, consts)?;
     let asyncness = parse_asyncness(alloc, input)?;
@@ -453,7 +447,7 @@ impl<
     J,
 > Grammar<'a, A, E, F, G, H, I, J> {
     /// A binder: `for<'a, 'b>`.
-    #[tactic(auto, using(token_core::proofs::Suffixes::follows, syn_forms::proofs::nested_laws::Ahead::later), unfolding(crate::specs::generics::Reading::binder))]
+    #[tactic(auto, using(token_core::proofs::Suffixes::follows), unfolding(crate::specs::generics::Reading::binder))]
     pub fn binder(
         &self,
         input: &mut ParseStream<'_>,
@@ -463,7 +457,6 @@ impl<
         requires few { ahead input.old ≤ length self.now.begin }
         ensures parses { Parses (reading.binder (knot.reads_below A.reads E.reads (length self.now.begin)))
             result input.old input.new }
-        ensures fewer { ahead input.new ≤ ahead input.old }
     {
         let (for_token, (lt_token, lifetimes, gt_token)) = self
             .params()
@@ -477,7 +470,7 @@ impl<
     }
 
     /// A binder that may be there.
-    #[tactic(auto, using(token_core::proofs::Suffixes::follows, syn_forms::proofs::nested_laws::Ahead::later), unfolding(crate::specs::generics::Reading::optional_binder))]
+    #[tactic(auto, using(token_core::proofs::Suffixes::follows), unfolding(crate::specs::generics::Reading::optional_binder))]
     pub fn optional_binder(
         &self,
         input: &mut ParseStream<'_>,
@@ -487,7 +480,6 @@ impl<
         requires few { ahead input.old ≤ length self.now.begin }
         ensures parses { Parses (reading.optional_binder (knot.reads_below A.reads E.reads (length self.now.begin)))
             result input.old input.new }
-        ensures fewer { ahead input.new ≤ ahead input.old }
     {
         if input.peek::<For>() {
             return Ok(Some(self.binder(input)?));
@@ -496,7 +488,7 @@ impl<
     }
 
     /// After a `?` the binder may stand behind it.
-    #[tactic(auto, using(token_core::proofs::Suffixes::follows, syn_forms::proofs::nested_laws::Ahead::later))]
+    #[tactic(auto, using(token_core::proofs::Suffixes::follows))]
     fn binder_after(
         &self,
         input: &mut ParseStream<'_>,
@@ -509,7 +501,6 @@ impl<
         ensures parses { Parses
             (reading.binder_after (knot.reads_below A.reads E.reads (length self.now.begin)) lifetimes maybe.now)
             result input.old input.new }
-        ensures fewer { ahead input.new ≤ ahead input.old }
     {
         match lifetimes {
             Some(lifetimes) => Ok(Some(lifetimes)),
@@ -900,7 +891,7 @@ fn binder_from<A: Attributes, E: Value>(
 }
 
 /// A binder where `for` stands.
-#[tactic(auto, using(token_core::proofs::Suffixes::follows, syn_forms::proofs::nested_laws::Ahead::later), unfolding(crate::specs::generics::Reading::optional_binder))]
+#[tactic(auto, using(token_core::proofs::Suffixes::follows), unfolding(crate::specs::generics::Reading::optional_binder))]
 pub fn optional_binder_from<A: Attributes, E: Value>(
     alloc: Global,
     begin: &Cursor<'_>,
@@ -909,7 +900,6 @@ pub fn optional_binder_from<A: Attributes, E: Value>(
     requires few { ahead input.old ≤ length begin.now }
     ensures parses { Parses (reading.optional_binder (knot.reads_below A.reads E.reads (length begin.now)))
         result input.old input.new }
-    ensures fewer { ahead input.new ≤ ahead input.old }
 {
     if input.peek::<For>() {
         return Ok(Some(binder_from::<A, E>(alloc, begin, input)?));
@@ -918,7 +908,7 @@ pub fn optional_binder_from<A: Attributes, E: Value>(
 }
 
 /// A binder that may stand behind a `?`.
-#[tactic(auto, using(token_core::proofs::Suffixes::follows, syn_forms::proofs::nested_laws::Ahead::later))]
+#[tactic(auto, using(token_core::proofs::Suffixes::follows))]
 fn binder_after_from<A: Attributes, E: Value>(
     alloc: Global,
     begin: &Cursor<'_>,
@@ -930,7 +920,6 @@ fn binder_after_from<A: Attributes, E: Value>(
     ensures parses { Parses
         (reading.binder_after (knot.reads_below A.reads E.reads (length begin.now)) lifetimes maybe.now)
         result input.old input.new }
-    ensures fewer { ahead input.new ≤ ahead input.old }
 {
     match lifetimes {
         Some(lifetimes) => Ok(Some(lifetimes)),

@@ -374,7 +374,7 @@ impl<
     // ---- arguments in angle brackets
 
     /// Arguments in angle brackets, after a `::` that may have been there: `<'a, T>`.
-    #[tactic(auto, using(token_core::proofs::Suffixes::follows, syn_forms::proofs::nested_laws::Ahead::later))]
+    #[tactic(auto, using(token_core::proofs::Suffixes::follows))]
     fn arguments_after(
         &self,
         input: &mut ParseStream<'_>,
@@ -386,7 +386,6 @@ impl<
         ensures parses { Parses
             (reading.arguments_after (knot.reads_below A.reads E.reads (length self.now.begin)) colon2_token)
             result input.old input.new }
-        ensures fewer { ahead input.new ≤ ahead input.old }
     {
         let (lt_token, args, gt_token) = self.args().angled(input, ())?;
         Ok(AngleBracketedGenericArgumentsOf {
@@ -408,7 +407,6 @@ impl<
         requires few { ahead input.old ≤ length self.now.begin }
         ensures parses { Parses (reading.angle_bracketed (knot.reads_below A.reads E.reads (length self.now.begin)))
             result input.old input.new }
-        ensures fewer { ahead input.new ≤ ahead input.old }
     {
         let colon2_token = input.parse_option::<PathSep>(self.alloc)?;
         self.arguments_after(input, colon2_token)
@@ -453,7 +451,7 @@ impl<
     // ---- paths
 
     /// A path, in this style.
-    #[tactic(auto, using(token_core::proofs::Suffixes::follows, syn_forms::proofs::nested_laws::Ahead::later))]
+    #[tactic(auto, using(token_core::proofs::Suffixes::follows))]
     pub fn path(
         &self,
         input: &mut ParseStream<'_>,
@@ -464,13 +462,12 @@ impl<
         requires few { ahead input.old ≤ length self.now.begin }
         ensures parses { Parses (reading.path (knot.reads_below A.reads E.reads (length self.now.begin)) style)
             result input.old input.new }
-        ensures fewer { ahead input.new ≤ ahead input.old }
     {
         self.segments().path(input, style)
     }
 
     /// What goes on with the path of a type: `::` and further segments.
-    #[tactic(auto, using(token_core::proofs::Suffixes::follows, syn_forms::proofs::nested_laws::Ahead::later))]
+    #[tactic(auto, using(token_core::proofs::Suffixes::follows))]
     pub fn rest(
         &self,
         input: &mut ParseStream<'_>,
@@ -481,7 +478,6 @@ impl<
         requires few { ahead input.old ≤ length self.now.begin }
         ensures parses { Parses (reading.rest (knot.reads_below A.reads E.reads (length self.now.begin)) path)
             result input.old input.new }
-        ensures fewer { ahead input.new ≤ ahead input.old }
     {
         self.segments().rest(input, PathStyle::AsWritten, path)
     }
@@ -510,7 +506,7 @@ impl<
         + Copy,
 > Grammar<'a, A, E, F, G, H, I, J> {
     /// A path, in this style, that a type in `<..>` may qualify.
-    #[tactic(auto, using(token_core::proofs::Suffixes::follows, syn_forms::proofs::nested_laws::Ahead::later))]
+    #[tactic(auto, using(token_core::proofs::Suffixes::follows))]
     pub fn maybe_qualified(
         &self,
         input: &mut ParseStream<'_>,
@@ -524,7 +520,6 @@ impl<
         ensures parses { Parses
             (reading.maybe_qualified (knot.reads_below A.reads E.reads (length self.now.begin)) style)
             result input.old input.new }
-        ensures fewer { ahead input.new ≤ ahead input.old }
     {
         self.segments()
             .maybe_qualified(&self.types(), input, TypePlace::Plus, style)
@@ -550,7 +545,7 @@ impl<
     // ---- signatures of traits
 
     /// Arguments in parentheses and their output: `(A, B) -> C`. The output is read without plus.
-    #[tactic(auto, using(token_core::proofs::Suffixes::follows, syn_forms::proofs::nested_laws::Ahead::later), unfolding(crate::specs::path::Reading::parenthesized))]
+    #[tactic(auto, using(token_core::proofs::Suffixes::follows), unfolding(crate::specs::path::Reading::parenthesized))]
     pub fn parenthesized(
         &self,
         input: &mut ParseStream<'_>,
@@ -560,7 +555,6 @@ impl<
         requires few { ahead input.old ≤ length self.now.begin }
         ensures parses { Parses (reading.parenthesized (knot.reads_below A.reads E.reads (length self.now.begin)))
             result input.old input.new }
-        ensures fewer { ahead input.new ≤ ahead input.old }
     {
         let (paren_token, inputs, returned) = self
             .types()
@@ -573,7 +567,7 @@ impl<
     }
 
     /// A signature, with a `::` before it or without, which is not kept.
-    #[tactic(auto, using(token_core::proofs::Suffixes::follows, syn_forms::proofs::nested_laws::Ahead::later))]
+    #[tactic(auto, using(token_core::proofs::Suffixes::follows))]
     fn signature_after(
         &self,
         input: &mut ParseStream<'_>,
@@ -584,7 +578,6 @@ impl<
         ensures parses { Parses (λ s. and_then (optional sees_sep sep s)
             (λ c. reading.parenthesized (knot.reads_below A.reads E.reads (length self.now.begin))))
             result input.old input.new }
-        ensures fewer { ahead input.new ≤ ahead input.old }
     {
         input.parse_option::<PathSep>(self.alloc)?;
         self.parenthesized(input)
@@ -592,7 +585,7 @@ impl<
 
     /// The path of a trait with the signature that may follow it: `Fn(A) -> B`, `Fn::(A) -> B`. The signature takes the place
     /// of an empty `<>`, and the `::` before it is not kept.
-    #[tactic(auto, using(token_core::proofs::Suffixes::follows, syn_forms::proofs::nested_laws::Ahead::later, crate::proofs::path_laws::Signed::steps), unfolding(crate::specs::path::Reading::signed))]
+    #[tactic(auto, using(token_core::proofs::Suffixes::follows, crate::proofs::path_laws::Signed::steps), unfolding(crate::specs::path::Reading::signed))]
     pub fn signed(
         &self,
         input: &mut ParseStream<'_>,
@@ -603,7 +596,6 @@ impl<
         requires few { ahead input.old ≤ length self.now.begin }
         ensures parses { Parses (reading.signed (knot.reads_below A.reads E.reads (length self.now.begin)) path)
             result input.old input.new }
-        ensures fewer { ahead input.new ≤ ahead input.old }
     {
         // both tested, so that the answer is one value
         if !(takes_signature(&path) & peek_signature(input)) {
@@ -867,7 +859,7 @@ fn arguments_from<A: Attributes, E: Value>(
 }
 
 /// A path, in this style.
-#[tactic(auto, using(token_core::proofs::Suffixes::follows, syn_forms::proofs::nested_laws::Ahead::later))]
+#[tactic(auto, using(token_core::proofs::Suffixes::follows))]
 pub(crate) fn path_from<A: Attributes, E: Value>(
     alloc: Global,
     begin: &Cursor<'_>,
@@ -877,7 +869,6 @@ pub(crate) fn path_from<A: Attributes, E: Value>(
     requires few { ahead input.old ≤ length begin.now }
     ensures parses { Parses (reading.path (knot.reads_below A.reads E.reads (length begin.now)) style)
         result input.old input.new }
-    ensures fewer { ahead input.new ≤ ahead input.old }
 {
     forms::parse_path::<PathArgumentsOf<A, E>>(alloc, begin, input, style)
 }

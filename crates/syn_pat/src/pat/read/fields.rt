@@ -1,6 +1,6 @@
 //! The fields of a struct's pattern.
 
-ghost use Rattle.std.specs.Prelude.{◌≡◌, ◌<◌, ◌≤◌, length, None};
+ghost use Rattle.std.specs.Prelude.{◌≡◌, ◌<◌, length, None};
 ghost use Rattle.syn_forms.specs.nested.Below.{Nests, ahead};
 ghost use Rattle.syn_forms.specs.verbatim.Reading as verbatim;
 ghost use Rattle.syn_pat.specs.pat.Knot as knot;
@@ -32,10 +32,9 @@ type Modes = (Option<Box>, Option<Ref>, Option<Mut>);
 pub(crate) type Fields<X, G, Q, T> = (Punctuated<FieldOver<X, G, Q, T>, Comma>, Option<PatRest<X>>);
 
 /// `box`, `ref` and `mut`, each of which may be there.
-#[tactic(auto, using(token_core::proofs::Suffixes::follows, syn_forms::proofs::nested_laws::Ahead::later), unfolding(crate::specs::pat::Reading::modes))]
+#[tactic(auto, using(token_core::proofs::Suffixes::follows), unfolding(crate::specs::pat::Reading::modes))]
 fn parse_modes(alloc: Global, input: &mut ParseStream<'_>) -> Result<Modes, Error>
     ensures parses { Parses reading.modes result input.old input.new }
-    ensures fewer { ahead input.new ≤ ahead input.old }
 {
     let boxed = input.parse_option::<Box>(alloc)?;
     let by_ref = parse_ref(alloc, input)?;
@@ -112,7 +111,7 @@ impl<
         + Copy,
 > Patterns<'a, X, G, Q, T, F> {
     /// A member's `:` and pattern.
-    #[tactic(auto, using(token_core::proofs::Suffixes::follows, syn_forms::proofs::nested_laws::Ahead::later), unfolding(crate::specs::pat::Reading::member_field))]
+    #[tactic(auto, using(token_core::proofs::Suffixes::follows), unfolding(crate::specs::pat::Reading::member_field))]
     fn member_field(
         &self,
         input: &mut ParseStream<'_>,
@@ -125,7 +124,6 @@ impl<
         ensures parses { Parses (reading.member_field
             (knot.pats_below X.reads (named Q.reads G.is_absent) (length self.now.begin)) attrs member)
             result input.old input.new }
-        ensures fewer { ahead input.new ≤ ahead input.old }
     {
         let colon_token = parse_colon(self.alloc, input)?;
         let pat = self.patterns().boxed(input, PatPlace::LeadingVert)?;
@@ -138,7 +136,7 @@ impl<
     }
 
     /// What follows a member without `box`, `ref` and `mut`: an index needs a pattern, and a name binds itself without one.
-    #[tactic(auto, using(token_core::proofs::Suffixes::follows, syn_forms::proofs::nested_laws::Ahead::later), unfolding(crate::specs::pat::Reading::plain_field))]
+    #[tactic(auto, using(token_core::proofs::Suffixes::follows), unfolding(crate::specs::pat::Reading::plain_field))]
     fn plain_field(
         &self,
         input: &mut ParseStream<'_>,
@@ -153,7 +151,6 @@ impl<
         ensures parses { Parses (reading.plain_field
             (knot.pats_below X.reads (named Q.reads G.is_absent) (length self.now.begin)) from.now attrs member)
             result input.old input.new }
-        ensures fewer { ahead input.new ≤ ahead input.old }
     {
         match member {
             Member::Unnamed(index) => self.member_field(input, attrs, Member::Unnamed(index)),
@@ -167,7 +164,7 @@ impl<
     }
 
     /// A field after its attributes (syn's `field_pat`).
-    #[tactic(auto, using(token_core::proofs::Suffixes::follows, syn_forms::proofs::nested_laws::Ahead::later, token_core::proofs::Places::positions), unfolding(crate::specs::pat::Reading::field))]
+    #[tactic(auto, using(token_core::proofs::Suffixes::follows, token_core::proofs::Places::positions), unfolding(crate::specs::pat::Reading::field))]
     fn field(
         &self,
         input: &mut ParseStream<'_>,
@@ -179,7 +176,6 @@ impl<
         ensures parses { Parses
             (reading.field (knot.pats_below X.reads (named Q.reads G.is_absent) (length self.now.begin)) attrs)
             result input.old input.new }
-        ensures fewer { ahead input.new ≤ ahead input.old }
     {
         let from = input.cursor();
         let modes = parse_modes(self.alloc, input)?;

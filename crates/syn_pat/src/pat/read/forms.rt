@@ -34,22 +34,19 @@ fn parse_bound_name(alloc: Global, input: &mut ParseStream<'_>) -> Result<Ident,
 }
 
 /// `ref` that may be there.
-#[tactic(auto, using(syn_forms::proofs::nested_laws::Ahead::later))]
 pub(crate) fn parse_ref(alloc: Global, input: &mut ParseStream<'_>) -> Result<Option<Ref>, Error>
     ensures parses { Parses reading.by_ref result input.old input.new }
-    ensures fewer { ahead input.new ≤ ahead input.old }
 {
     input.parse_option::<Ref>(alloc)
 }
 
 /// `ref` and `mut`, which may be there, and a name.
-#[tactic(auto, using(token_core::proofs::Suffixes::follows, syn_forms::proofs::nested_laws::Ahead::later), unfolding(crate::specs::pat::Reading::bound_head))]
+#[tactic(auto, using(token_core::proofs::Suffixes::follows), unfolding(crate::specs::pat::Reading::bound_head))]
 fn parse_bound_head(
     alloc: Global,
     input: &mut ParseStream<'_>,
 ) -> Result<(Option<Ref>, Option<Mut>, Ident), Error>
     ensures parses { Parses reading.bound_head result input.old input.new }
-    ensures fewer { ahead input.new ≤ ahead input.old }
 {
     let by_ref = parse_ref(alloc, input)?;
     let mutability = parse_mut(alloc, input)?;

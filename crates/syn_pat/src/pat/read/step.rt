@@ -6,7 +6,7 @@ ghost use Rattle.syn_pat.specs.pat.Knot as knot;
 ghost use Rattle.syn_pat.specs.pat.Reading as reading;
 ghost use Rattle.syn_pat.specs.pat.Reading.{named};
 ghost use Rattle.token_core.specs.Loops.{never};
-ghost use Rattle.token_core.specs.Reads.{Parses, Reads, optional, pure};
+ghost use Rattle.token_core.specs.Reads.{Parses, Reads, pure};
 ghost use Rattle.token_core.specs.Tokens as token;
 
 use crate::names::Qualifier;
@@ -178,7 +178,7 @@ impl<
     }
 
     /// One pattern, by its first tokens (syn's `PatOf::parse_single`).
-    #[tactic(auto, using(token_core::proofs::Suffixes::follows, syn_forms::proofs::nested_laws::Ahead::later), unfolding(crate::specs::pat::Reading::single))]
+    #[tactic(auto, using(token_core::proofs::Suffixes::follows), unfolding(crate::specs::pat::Reading::single))]
     fn single(&self, input: &mut ParseStream<'_>) -> Result<Boxed<PatOver<X, G, Q, T>>, Error>
         requires patterns { Nests (knot.pat X.reads (named Q.reads G.is_absent)) (length self.now.begin)
             (F.pre self.now.patterns) (F.post self.now.patterns) }
@@ -186,7 +186,6 @@ impl<
         ensures parses { Parses (reading.single X.reads
             (named Q.reads G.is_absent) (knot.pats_below X.reads (named Q.reads G.is_absent) (length self.now.begin)))
             result input.old input.new }
-        ensures fewer { ahead input.new ≤ ahead input.old }
     {
         if begins_path(input) {
             return boxed_pat(self.alloc, self.path_pat(input)?, input);

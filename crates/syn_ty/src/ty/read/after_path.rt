@@ -61,7 +61,7 @@ impl<
     J,
 > Grammar<'a, A, E, F, G, H, I, J> {
     /// A trait object that begins with a path, after a binder that may stand before it.
-    #[tactic(auto, using(token_core::proofs::Suffixes::follows, syn_forms::proofs::nested_laws::Ahead::later))]
+    #[tactic(auto, using(token_core::proofs::Suffixes::follows))]
     pub(crate) fn path_object(
         &self,
         input: &mut ParseStream<'_>,
@@ -75,7 +75,6 @@ impl<
         ensures parses { Parses
             (reading.path_object (knot.reads_below A.reads E.reads (length self.now.begin)) plus lifetimes path)
             result input.old input.new }
-        ensures fewer { ahead input.new ≤ ahead input.old }
     {
         let first = TypeParamBoundOf::Trait(named_bound(lifetimes, None, path));
         let bounds = self.more_bounds(input, plus, first)?;
@@ -83,7 +82,7 @@ impl<
     }
 
     /// After an unqualified path: a macro call; a trait object, after a binder or where a `+` may follow and does; or the path alone.
-    #[tactic(auto, using(token_core::proofs::Suffixes::follows, syn_forms::proofs::nested_laws::Ahead::later), unfolding(crate::specs::ty::Reading::after_path))]
+    #[tactic(auto, using(token_core::proofs::Suffixes::follows), unfolding(crate::specs::ty::Reading::after_path))]
     pub(crate) fn after_path(
         &self,
         input: &mut ParseStream<'_>,
@@ -97,7 +96,6 @@ impl<
         ensures parses { Parses
             (reading.after_path (knot.reads_below A.reads E.reads (length self.now.begin)) plus lifetimes path)
             result input.old input.new }
-        ensures fewer { ahead input.new ≤ ahead input.old }
     {
         if sees_call(input) & path.is_mod_style() {
             return macro_after(self.alloc, input, &path);
@@ -110,7 +108,7 @@ impl<
     }
 
     /// After a path: one that a type qualifies is the type.
-    #[tactic(auto, using(token_core::proofs::Suffixes::follows, syn_forms::proofs::nested_laws::Ahead::later), unfolding(crate::specs::ty::Reading::path_or_object))]
+    #[tactic(auto, using(token_core::proofs::Suffixes::follows), unfolding(crate::specs::ty::Reading::path_or_object))]
     #[inline(never)]
     pub(crate) fn path_or_object(
         &self,
@@ -126,7 +124,6 @@ impl<
         ensures parses { Parses (reading.path_or_object (knot.reads_below A.reads E.reads (length self.now.begin))
             plus lifetimes (qself, path))
             result input.old input.new }
-        ensures fewer { ahead input.new ≤ ahead input.old }
     {
         match qself {
             Some(qself) => {
@@ -157,7 +154,7 @@ impl<
     // ---- invisible groups
 
     /// After an invisible group that `::` and an identifier follow: a path goes on with them, and another type qualifies the path after it.
-    #[tactic(auto, using(token_core::proofs::Suffixes::follows, syn_forms::proofs::nested_laws::Ahead::later), unfolding(crate::specs::ty::Reading::group_with_segments))]
+    #[tactic(auto, using(token_core::proofs::Suffixes::follows), unfolding(crate::specs::ty::Reading::group_with_segments))]
     pub(crate) fn group_with_segments(
         &self,
         input: &mut ParseStream<'_>,
@@ -170,7 +167,6 @@ impl<
         ensures parses { Parses (reading.group_with_segments (knot.reads_below A.reads E.reads (length self.now.begin))
             group_token ty (reading.as_path ty))
             result input.old input.new }
-        ensures fewer { ahead input.new ≤ ahead input.old }
     {
         match as_path(ty) {
             Ok(ty) => {
@@ -203,7 +199,6 @@ impl<
         requires few { ahead input.old < length self.now.begin }
         ensures parses { Parses (reading.with_arguments (knot.reads_below A.reads E.reads (length self.now.begin)) ty)
             result input.old input.new }
-        ensures fewer { ahead input.new ≤ ahead input.old }
     {
         let TypePathOf { attrs, qself, path } = ty;
         let arguments = self.segments().boxed(input, ())?;
@@ -217,7 +212,7 @@ impl<
     }
 
     /// After an invisible group that `<`, or `::` and `<`, follow: a path whose last segment has no arguments takes them and goes on; another type is left as it is.
-    #[tactic(auto, using(token_core::proofs::Suffixes::follows, syn_forms::proofs::nested_laws::Ahead::later), unfolding(crate::specs::ty::Reading::group_with_arguments))]
+    #[tactic(auto, using(token_core::proofs::Suffixes::follows), unfolding(crate::specs::ty::Reading::group_with_arguments))]
     pub(crate) fn group_with_arguments(
         &self,
         input: &mut ParseStream<'_>,
@@ -230,7 +225,6 @@ impl<
         ensures parses { Parses (reading.group_with_arguments (knot.reads_below A.reads E.reads (length self.now.begin))
             group_token ty (reading.as_path ty))
             result input.old input.new }
-        ensures fewer { ahead input.new ≤ ahead input.old }
     {
         let ty = match as_path(ty) {
             Ok(path) => {
@@ -250,7 +244,7 @@ impl<
     }
 
     /// After an invisible group that no segment follows: arguments may, else it is a type of its own.
-    #[tactic(auto, using(token_core::proofs::Suffixes::follows, syn_forms::proofs::nested_laws::Ahead::later), unfolding(crate::specs::ty::Reading::group_without_segments))]
+    #[tactic(auto, using(token_core::proofs::Suffixes::follows), unfolding(crate::specs::ty::Reading::group_without_segments))]
     pub(crate) fn group_without_segments(
         &self,
         input: &mut ParseStream<'_>,
@@ -263,7 +257,6 @@ impl<
         ensures parses { Parses
             (reading.group_without_segments (knot.reads_below A.reads E.reads (length self.now.begin)) group_token elem)
             result input.old input.new }
-        ensures fewer { ahead input.new ≤ ahead input.old }
     {
         if sees_further_arguments(input) {
             return self.group_with_arguments(input, group_token, elem.into_inner());
@@ -276,7 +269,7 @@ impl<
     }
 
     /// What follows an invisible group may go on with the type that it holds.
-    #[tactic(auto, using(token_core::proofs::Suffixes::follows, syn_forms::proofs::nested_laws::Ahead::later), unfolding(crate::specs::ty::Reading::after_group))]
+    #[tactic(auto, using(token_core::proofs::Suffixes::follows), unfolding(crate::specs::ty::Reading::after_group))]
     pub(crate) fn after_group(
         &self,
         input: &mut ParseStream<'_>,
@@ -289,7 +282,6 @@ impl<
         ensures parses { Parses
             (reading.after_group (knot.reads_below A.reads E.reads (length self.now.begin)) (group_token, elem))
             result input.old input.new }
-        ensures fewer { ahead input.new ≤ ahead input.old }
     {
         if sees_further_segment(input) {
             return self.group_with_segments(input, group_token, elem.into_inner());
@@ -334,7 +326,6 @@ impl<
         requires few { ahead input.old ≤ length self.now.begin }
         ensures parses { Parses (reading.group_type (knot.reads_below A.reads E.reads (length self.now.begin)))
             result input.old input.new }
-        ensures fewer { ahead input.new ≤ ahead input.old }
     {
         let (group_token, elem) = self.types().in_invisible(input, TypePlace::Plus)?;
         self.after_group(input, group_token, elem)

@@ -37,7 +37,7 @@ impl<
     J,
 > Grammar<'a, A, E, F, G, H, I, J> {
     /// `*const T`, `*mut T`, the type without plus.
-    #[tactic(auto, using(token_core::proofs::Suffixes::follows, syn_forms::proofs::nested_laws::Ahead::later), unfolding(crate::specs::ty::Reading::ptr))]
+    #[tactic(auto, using(token_core::proofs::Suffixes::follows), unfolding(crate::specs::ty::Reading::ptr))]
     #[inline(never)]
     pub(crate) fn ptr(
         &self,
@@ -48,14 +48,13 @@ impl<
         requires few { ahead input.old ≤ length self.now.begin }
         ensures parses { Parses (reading.ptr (knot.reads_below A.reads E.reads (length self.now.begin)))
             result input.old input.new }
-        ensures fewer { ahead input.new ≤ ahead input.old }
     {
         let parts = self.types().ptr(input, TypePlace::NoPlus)?;
         Ok(bare_ptr(self.alloc, parts))
     }
 
     /// `&'a mut T`, the type without plus.
-    #[tactic(auto, using(token_core::proofs::Suffixes::follows, syn_forms::proofs::nested_laws::Ahead::later), unfolding(crate::specs::ty::Reading::reference))]
+    #[tactic(auto, using(token_core::proofs::Suffixes::follows), unfolding(crate::specs::ty::Reading::reference))]
     #[inline(never)]
     pub(crate) fn reference(
         &self,
@@ -66,14 +65,13 @@ impl<
         requires few { ahead input.old ≤ length self.now.begin }
         ensures parses { Parses (reading.reference (knot.reads_below A.reads E.reads (length self.now.begin)))
             result input.old input.new }
-        ensures fewer { ahead input.new ≤ ahead input.old }
     {
         let parts = self.types().reference(input, TypePlace::NoPlus)?;
         Ok(bare_reference(self.alloc, parts))
     }
 
     /// A slice, or an array where a `;` follows the type.
-    #[tactic(auto, using(token_core::proofs::Suffixes::follows, syn_forms::proofs::nested_laws::Ahead::later), unfolding(crate::specs::ty::Reading::slice_or_array))]
+    #[tactic(auto, using(token_core::proofs::Suffixes::follows), unfolding(crate::specs::ty::Reading::slice_or_array))]
     #[inline(never)]
     pub(crate) fn slice_or_array(
         &self,
@@ -85,7 +83,6 @@ impl<
         ensures parses { Parses
             (reading.slice_or_array E.reads (knot.reads_below A.reads E.reads (length self.now.begin)))
             result input.old input.new }
-        ensures fewer { ahead input.new ≤ ahead input.old }
     {
         let (bracket_token, held) = self.types().slice_or_array::<E>(input, TypePlace::Plus)?;
         boxed_type(
@@ -112,7 +109,7 @@ impl<
     }
 
     /// What a function returns: nothing, or `->` and a type.
-    #[tactic(auto, using(token_core::proofs::Suffixes::follows, syn_forms::proofs::nested_laws::Ahead::later), unfolding(crate::specs::ty::Reading::return_type))]
+    #[tactic(auto, using(token_core::proofs::Suffixes::follows), unfolding(crate::specs::ty::Reading::return_type))]
     pub(crate) fn return_type(
         &self,
         input: &mut ParseStream<'_>,
@@ -123,7 +120,6 @@ impl<
         requires few { ahead input.old ≤ length self.now.begin }
         ensures parses { Parses (reading.return_type (knot.reads_below A.reads E.reads (length self.now.begin)) place)
             result input.old input.new }
-        ensures fewer { ahead input.new ≤ ahead input.old }
     {
         let parts = self.types().returned(input, place)?;
         Ok(return_of(parts))

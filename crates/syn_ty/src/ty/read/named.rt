@@ -68,7 +68,6 @@ impl<
         ensures parses { Parses
             (reading.fn_inputs A.reads E.reads (knot.reads_below A.reads E.reads (length self.now.begin)))
             result input.old input.new }
-        ensures fewer { ahead input.new ≤ ahead input.old }
     {
         let (paren_token, mut content) = open_parens(self.alloc, input)?;
         let held = self
@@ -79,7 +78,7 @@ impl<
     }
 
     /// A pointer to a function by its parts, after its binder.
-    #[tactic(auto, using(token_core::proofs::Suffixes::follows, syn_forms::proofs::nested_laws::Ahead::later), unfolding(crate::specs::ty::Reading::fn_ptr_parts))]
+    #[tactic(auto, using(token_core::proofs::Suffixes::follows), unfolding(crate::specs::ty::Reading::fn_ptr_parts))]
     fn fn_ptr_parts(&self, input: &mut ParseStream<'_>) -> Result<FnPtrParts<A, E>, Error>
         requires types { Nests (knot.ty A.reads E.reads) (length self.now.begin)
             (F.pre self.now.types) (F.post self.now.types) }
@@ -87,7 +86,6 @@ impl<
         ensures parses { Parses
             (reading.fn_ptr_parts A.reads E.reads (knot.reads_below A.reads E.reads (length self.now.begin)))
             result input.old input.new }
-        ensures fewer { ahead input.new ≤ ahead input.old }
     {
         // boxed: a refusal then drops each by one call, where its options would be taken apart
         let head = Boxed::new(self.alloc, parse_fn_head(self.alloc, input)?)?;
@@ -97,7 +95,7 @@ impl<
     }
 
     /// A pointer to a function after its binder: `unsafe extern "C" fn(a: A, ...) -> B` (syn's `TypeBareFn`).
-    #[tactic(auto, using(token_core::proofs::Suffixes::follows, syn_forms::proofs::nested_laws::Ahead::later), unfolding(crate::specs::ty::Reading::fn_ptr_after))]
+    #[tactic(auto, using(token_core::proofs::Suffixes::follows), unfolding(crate::specs::ty::Reading::fn_ptr_after))]
     #[inline(never)]
     pub(crate) fn fn_ptr_after(
         &self,
@@ -110,14 +108,13 @@ impl<
         ensures parses { Parses
             (reading.fn_ptr_after A.reads E.reads (knot.reads_below A.reads E.reads (length self.now.begin)) lifetimes)
             result input.old input.new }
-        ensures fewer { ahead input.new ≤ ahead input.old }
     {
         let parts = self.fn_ptr_parts(input)?;
         Ok(bare_fn_ptr(self.alloc, lifetimes, parts))
     }
 
     /// The same as a type.
-    #[tactic(auto, using(token_core::proofs::Suffixes::follows, syn_forms::proofs::nested_laws::Ahead::later))]
+    #[tactic(auto, using(token_core::proofs::Suffixes::follows))]
     #[inline(never)]
     fn fn_ptr_type(
         &self,
@@ -130,14 +127,13 @@ impl<
         ensures parses { Parses (λ s. and_then
             (reading.fn_ptr_after A.reads E.reads (knot.reads_below A.reads E.reads (length self.now.begin)) lifetimes s)
             (λ form. pure (variants.FnPtr form))) result input.old input.new }
-        ensures fewer { ahead input.new ≤ ahead input.old }
     {
         let form = self.fn_ptr_after(input, lifetimes)?;
         boxed_type(self.alloc, TypeOf::FnPtr(form), input)
     }
 
     /// `unsafe<'a> T`: no case holds it, so that it is held as it was written, from a position on.
-    #[tactic(auto, using(token_core::proofs::Suffixes::follows, syn_forms::proofs::nested_laws::Ahead::later, syn_forms::proofs::verbatim_laws::Reached::later), unfolding(crate::specs::ty::Reading::unsafe_binder))]
+    #[tactic(auto, using(token_core::proofs::Suffixes::follows, syn_forms::proofs::verbatim_laws::Reached::later), unfolding(crate::specs::ty::Reading::unsafe_binder))]
     #[inline(never)]
     pub(crate) fn unsafe_binder(
         &self,
@@ -152,7 +148,6 @@ impl<
         ensures parses { Parses
             (reading.unsafe_binder (knot.reads_below A.reads E.reads (length self.now.begin)) from.now place)
             result input.old input.new }
-        ensures fewer { ahead input.new ≤ ahead input.old }
     {
         parse_unsafe(self.alloc, input)?;
         parse_angled_lifetimes(self.alloc, input)?;
@@ -214,7 +209,6 @@ impl<
             (paths.maybe_qualified (knot.reads_below A.reads E.reads (length self.now.begin)) styles.AsWritten s)
             (reading.path_or_object (knot.reads_below A.reads E.reads (length self.now.begin)) plus lifetimes))
             result input.old input.new }
-        ensures fewer { ahead input.new ≤ ahead input.old }
     {
         match self.maybe_qualified(input, PathStyle::AsWritten) {
             Ok((qself, path)) => self.path_or_object(input, plus, lifetimes, qself, path),
@@ -223,7 +217,7 @@ impl<
     }
 
     /// A pointer to a function, a path, or tokens that no case holds.
-    #[tactic(auto, using(token_core::proofs::Suffixes::follows, syn_forms::proofs::nested_laws::Ahead::later), unfolding(crate::specs::ty::Reading::named_type))]
+    #[tactic(auto, using(token_core::proofs::Suffixes::follows), unfolding(crate::specs::ty::Reading::named_type))]
     pub(crate) fn named_type(
         &self,
         input: &mut ParseStream<'_>,
@@ -242,7 +236,6 @@ impl<
         ensures parses { Parses (reading.named_type A.reads E.reads
             (knot.reads_below A.reads E.reads (length self.now.begin)) place from.now lifetimes)
             result input.old input.new }
-        ensures fewer { ahead input.new ≤ ahead input.old }
     {
         if sees_unsafe_binder(input) {
             return self.unsafe_binder(input, from, place);
@@ -292,7 +285,7 @@ impl<
         + Copy,
 > Grammar<'a, A, E, F, G, H, I, J> {
     /// A type after its binder: a pointer to a function, or a trait object that begins with a path.
-    #[tactic(auto, using(token_core::proofs::Suffixes::follows, syn_forms::proofs::nested_laws::Ahead::later, syn_forms::proofs::verbatim_laws::Reached::later), unfolding(crate::specs::ty::Reading::bound_type))]
+    #[tactic(auto, using(token_core::proofs::Suffixes::follows, syn_forms::proofs::verbatim_laws::Reached::later), unfolding(crate::specs::ty::Reading::bound_type))]
     #[inline(never)]
     pub(crate) fn bound_type(
         &self,
@@ -313,7 +306,6 @@ impl<
         ensures parses { Parses (reading.bound_type A.reads E.reads
             (knot.reads_below A.reads E.reads (length self.now.begin)) place from.now)
             result input.old input.new }
-        ensures fewer { ahead input.new ≤ ahead input.old }
     {
         let lifetimes = self.binder(input)?;
         if sees_bindable(input) {

@@ -93,7 +93,7 @@ impl<
     J,
 > Grammar<'a, A, E, F, G, H, I, J> {
     /// A bound of a trait object.
-    #[tactic(auto, using(token_core::proofs::Suffixes::follows, syn_forms::proofs::nested_laws::Ahead::later))]
+    #[tactic(auto, using(token_core::proofs::Suffixes::follows))]
     fn object_bound(
         &self,
         input: &mut ParseStream<'_>,
@@ -103,13 +103,12 @@ impl<
         requires few { ahead input.old < length self.now.begin }
         ensures parses { Parses (knot.reads_below A.reads E.reads (length self.now.begin) (a_bound Object))
             result input.old input.new }
-        ensures fewer { ahead input.new ≤ ahead input.old }
     {
         self.bounds().boxed(input, BoundPlace::Object)
     }
 
     /// The bounds of a trait object after the first: several where a `+` may follow.
-    #[tactic(auto, using(token_core::proofs::Suffixes::follows, syn_forms::proofs::nested_laws::Ahead::later))]
+    #[tactic(auto, using(token_core::proofs::Suffixes::follows))]
     pub(crate) fn more_bounds(
         &self,
         input: &mut ParseStream<'_>,
@@ -122,7 +121,6 @@ impl<
         ensures parses { Parses
             (bounds_from (knot.reads_below A.reads E.reads (length self.now.begin) (a_bound Object)) false plus first)
             result input.old input.new }
-        ensures fewer { ahead input.new ≤ ahead input.old }
     {
         let end = Bounds {
             consts: false,
@@ -133,7 +131,7 @@ impl<
     }
 
     /// The bounds of a trait object after the first, of which one has to be a trait: else they are refused from its start on.
-    #[tactic(auto, using(token_core::proofs::Suffixes::follows, syn_forms::proofs::nested_laws::Ahead::later), unfolding(crate::specs::ty::Reading::object_bounds))]
+    #[tactic(auto, using(token_core::proofs::Suffixes::follows), unfolding(crate::specs::ty::Reading::object_bounds))]
     pub(crate) fn object_bounds(
         &self,
         input: &mut ParseStream<'_>,
@@ -147,14 +145,13 @@ impl<
         ensures parses { Parses
             (reading.object_bounds (knot.reads_below A.reads E.reads (length self.now.begin)) from plus first)
             result input.old input.new }
-        ensures fewer { ahead input.new ≤ ahead input.old }
     {
         let bounds = self.more_bounds(input, plus, first)?;
         needs_trait(self.alloc, input, bounds, ErrorKind::NoTraitInObject, from)
     }
 
     /// The bounds of a trait object that begins with a lifetime: several in every place.
-    #[tactic(auto, using(token_core::proofs::Suffixes::follows, syn_forms::proofs::nested_laws::Ahead::later), unfolding(crate::specs::ty::Reading::lifetime_object))]
+    #[tactic(auto, using(token_core::proofs::Suffixes::follows), unfolding(crate::specs::ty::Reading::lifetime_object))]
     #[inline(never)]
     pub(crate) fn lifetime_object(
         &self,
@@ -165,7 +162,6 @@ impl<
         requires few { ahead input.old ≤ length self.now.begin }
         ensures parses { Parses (reading.lifetime_object (knot.reads_below A.reads E.reads (length self.now.begin)))
             result input.old input.new }
-        ensures fewer { ahead input.new ≤ ahead input.old }
     {
         let from = input.span();
         let first = TypeParamBoundOf::Lifetime(parse_any_lifetime(self.alloc, input)?);
@@ -173,7 +169,7 @@ impl<
     }
 
     /// `dyn A + 'a`. A `*` after `dyn` has no case of its own: such a type is held as it was written.
-    #[tactic(auto, using(token_core::proofs::Suffixes::follows, syn_forms::proofs::nested_laws::Ahead::later, syn_forms::proofs::verbatim_laws::Reached::later), unfolding(crate::specs::ty::Reading::dyn_type))]
+    #[tactic(auto, using(token_core::proofs::Suffixes::follows, syn_forms::proofs::verbatim_laws::Reached::later), unfolding(crate::specs::ty::Reading::dyn_type))]
     #[inline(never)]
     pub(crate) fn dyn_type(
         &self,
@@ -185,7 +181,6 @@ impl<
         requires few { ahead input.old ≤ length self.now.begin }
         ensures parses { Parses (reading.dyn_type (knot.reads_below A.reads E.reads (length self.now.begin)) plus)
             result input.old input.new }
-        ensures fewer { ahead input.new ≤ ahead input.old }
     {
         let at = input.cursor();
         let from = input.span();
@@ -197,7 +192,7 @@ impl<
     }
 
     /// The bounds after `impl`.
-    #[tactic(auto, using(token_core::proofs::Suffixes::follows, syn_forms::proofs::nested_laws::Ahead::later), unfolding(crate::specs::ty::Reading::opaque_bounds))]
+    #[tactic(auto, using(token_core::proofs::Suffixes::follows), unfolding(crate::specs::ty::Reading::opaque_bounds))]
     fn opaque_bounds(
         &self,
         input: &mut ParseStream<'_>,
@@ -208,14 +203,13 @@ impl<
         requires few { ahead input.old < length self.now.begin }
         ensures parses { Parses (reading.opaque_bounds (knot.reads_below A.reads E.reads (length self.now.begin)) plus)
             result input.old input.new }
-        ensures fewer { ahead input.new ≤ ahead input.old }
     {
         let end = Bounds { consts: true, plus };
         self.bounds().list(input, BoundPlace::Opaque, end)
     }
 
     /// The bounds after `impl`, of which one has to name a trait: else they are refused from `impl` on.
-    #[tactic(auto, using(token_core::proofs::Suffixes::follows, syn_forms::proofs::nested_laws::Ahead::later), unfolding(crate::specs::ty::Reading::impl_bounds))]
+    #[tactic(auto, using(token_core::proofs::Suffixes::follows), unfolding(crate::specs::ty::Reading::impl_bounds))]
     fn impl_bounds(
         &self,
         input: &mut ParseStream<'_>,
@@ -228,14 +222,13 @@ impl<
         ensures parses { Parses
             (reading.impl_bounds (knot.reads_below A.reads E.reads (length self.now.begin)) from plus)
             result input.old input.new }
-        ensures fewer { ahead input.new ≤ ahead input.old }
     {
         let bounds = self.opaque_bounds(input, plus)?;
         needs_trait(self.alloc, input, bounds, ErrorKind::NoTraitInImpl, from)
     }
 
     /// `impl A + 'a`: bounds, of which one has to name a trait.
-    #[tactic(auto, using(token_core::proofs::Suffixes::follows, syn_forms::proofs::nested_laws::Ahead::later), unfolding(crate::specs::ty::Reading::impl_trait))]
+    #[tactic(auto, using(token_core::proofs::Suffixes::follows), unfolding(crate::specs::ty::Reading::impl_trait))]
     pub(crate) fn impl_trait(
         &self,
         input: &mut ParseStream<'_>,
@@ -246,7 +239,6 @@ impl<
         requires few { ahead input.old ≤ length self.now.begin }
         ensures parses { Parses (reading.impl_trait (knot.reads_below A.reads E.reads (length self.now.begin)) plus)
             result input.old input.new }
-        ensures fewer { ahead input.new ≤ ahead input.old }
     {
         let from = input.span();
         let impl_token = parse_impl(self.alloc, input)?;
@@ -255,7 +247,7 @@ impl<
     }
 
     /// A trait object that goes on after its first bound: each `+` needs a further one.
-    #[tactic(auto, using(token_core::proofs::Suffixes::follows, syn_forms::proofs::nested_laws::Ahead::later))]
+    #[tactic(auto, using(token_core::proofs::Suffixes::follows))]
     pub(crate) fn object_from(
         &self,
         input: &mut ParseStream<'_>,
@@ -267,7 +259,6 @@ impl<
         ensures parses { Parses
             (reading.each_object_from (knot.reads_below A.reads E.reads (length self.now.begin)) first)
             result input.old input.new }
-        ensures fewer { ahead input.new ≤ ahead input.old }
     {
         let bounds = self
             .bounds()
@@ -276,7 +267,7 @@ impl<
     }
 
     /// A type in parentheses; where a `+` may follow and does, it is the first bound of a trait object if it may be one.
-    #[tactic(auto, using(token_core::proofs::Suffixes::follows, syn_forms::proofs::nested_laws::Ahead::later, crate::proofs::ty_laws::Kinds::parens))]
+    #[tactic(auto, using(token_core::proofs::Suffixes::follows, crate::proofs::ty_laws::Kinds::parens))]
     pub(crate) fn paren_or_object(
         &self,
         input: &mut ParseStream<'_>,
@@ -290,7 +281,6 @@ impl<
         ensures parses { Parses (reading.paren_or_object (knot.reads_below A.reads E.reads (length self.now.begin))
             plus paren_token elem (reading.first_bound paren_token elem))
             result input.old input.new }
-        ensures fewer { ahead input.new ≤ ahead input.old }
     {
         if !plus_follows(input, plus) {
             return boxed_type(
@@ -313,7 +303,7 @@ impl<
     }
 
     /// The type of what parentheses held. After `(?..)` each `+` needs a bound in every place.
-    #[tactic(auto, using(token_core::proofs::Suffixes::follows, syn_forms::proofs::nested_laws::Ahead::later), unfolding(crate::specs::ty::Reading::of_parens))]
+    #[tactic(auto, using(token_core::proofs::Suffixes::follows), unfolding(crate::specs::ty::Reading::of_parens))]
     #[inline(never)]
     pub(crate) fn of_parens(
         &self,
@@ -332,7 +322,6 @@ impl<
         ensures parses { Parses
             (reading.of_parens (knot.reads_below A.reads E.reads (length self.now.begin)) plus paren_token held)
             result input.old input.new }
-        ensures fewer { ahead input.new ≤ ahead input.old }
     {
         match held {
             ParenContent::Elements(elems) => {
@@ -429,7 +418,7 @@ impl<
     }
 
     /// Parentheses, and what they hold.
-    #[tactic(auto, using(token_core::proofs::Suffixes::follows, syn_forms::proofs::nested_laws::Ahead::later), unfolding(crate::specs::ty::Reading::parens))]
+    #[tactic(auto, using(token_core::proofs::Suffixes::follows), unfolding(crate::specs::ty::Reading::parens))]
     fn parens(
         &self,
         input: &mut ParseStream<'_>,
@@ -455,7 +444,6 @@ impl<
         requires few { ahead input.old ≤ length self.now.begin }
         ensures parses { Parses (reading.parens (knot.reads_below A.reads E.reads (length self.now.begin)))
             result input.old input.new }
-        ensures fewer { ahead input.new ≤ ahead input.old }
     {
         let (paren_token, mut content) = open_parens(self.alloc, input)?;
         let held = self.paren_content(&mut content)?;
@@ -464,7 +452,7 @@ impl<
     }
 
     /// A tuple, a type in parentheses, or a trait object that begins with parentheses (syn's `ambig_ty` at `(`).
-    #[tactic(auto, using(token_core::proofs::Suffixes::follows, syn_forms::proofs::nested_laws::Ahead::later), unfolding(crate::specs::ty::Reading::paren_type))]
+    #[tactic(auto, using(token_core::proofs::Suffixes::follows), unfolding(crate::specs::ty::Reading::paren_type))]
     #[inline(never)]
     pub(crate) fn paren_type(
         &self,
@@ -482,7 +470,6 @@ impl<
         requires few { ahead input.old ≤ length self.now.begin }
         ensures parses { Parses (reading.paren_type (knot.reads_below A.reads E.reads (length self.now.begin)) plus)
             result input.old input.new }
-        ensures fewer { ahead input.new ≤ ahead input.old }
     {
         let (paren_token, held) = self.parens(input)?;
         self.of_parens(input, plus, paren_token, held)

@@ -38,7 +38,7 @@ impl<
     J,
 > Grammar<'a, A, E, F, G, H, I, J> {
     /// A type that begins with `!`, `impl`, `_` or a lifetime.
-    #[tactic(auto, using(token_core::proofs::Suffixes::follows, syn_forms::proofs::nested_laws::Ahead::later), unfolding(crate::specs::ty::Reading::by_last_tokens))]
+    #[tactic(auto, using(token_core::proofs::Suffixes::follows), unfolding(crate::specs::ty::Reading::by_last_tokens))]
     #[inline(never)]
     pub(crate) fn by_last_tokens(
         &self,
@@ -51,7 +51,6 @@ impl<
         ensures parses { Parses
             (reading.by_last_tokens A.reads E.reads (knot.reads_below A.reads E.reads (length self.now.begin)) plus)
             result input.old input.new }
-        ensures fewer { ahead input.new ≤ ahead input.old }
     {
         if input.peek::<Not>() {
             return boxed_type(
@@ -105,7 +104,7 @@ impl<
     J,
 > Grammar<'a, A, E, F, G, H, I, J> {
     /// A type that begins with `dyn`, brackets, `*` or `&`, or as `by_last_tokens` reads it.
-    #[tactic(auto, using(token_core::proofs::Suffixes::follows, syn_forms::proofs::nested_laws::Ahead::later), unfolding(crate::specs::ty::Reading::by_token))]
+    #[tactic(auto, using(token_core::proofs::Suffixes::follows), unfolding(crate::specs::ty::Reading::by_token))]
     #[inline(never)]
     pub(crate) fn by_token(
         &self,
@@ -120,7 +119,6 @@ impl<
         ensures parses { Parses
             (reading.by_token A.reads E.reads (knot.reads_below A.reads E.reads (length self.now.begin)) plus)
             result input.old input.new }
-        ensures fewer { ahead input.new ≤ ahead input.old }
     {
         if input.peek::<Dyn>() {
             return self.dyn_type(input, plus);
@@ -173,7 +171,7 @@ impl<
         + Copy,
 > Grammar<'a, A, E, F, G, H, I, J> {
     /// A type without a binder.
-    #[tactic(auto, using(token_core::proofs::Suffixes::follows, syn_forms::proofs::nested_laws::Ahead::later), unfolding(crate::specs::ty::Reading::unbound_type))]
+    #[tactic(auto, using(token_core::proofs::Suffixes::follows), unfolding(crate::specs::ty::Reading::unbound_type))]
     pub(crate) fn unbound_type(
         &self,
         input: &mut ParseStream<'_>,
@@ -193,7 +191,6 @@ impl<
         ensures parses { Parses (reading.unbound_type A.reads E.reads
             (knot.reads_below A.reads E.reads (length self.now.begin)) place from.now)
             result input.old input.new }
-        ensures fewer { ahead input.new ≤ ahead input.old }
     {
         let plus = place.allows_plus();
         if input.peek::<Paren>() {
@@ -209,7 +206,7 @@ impl<
     ///
     /// In an invisible group it is the type that the group holds, with what goes on after the group. After a binder it is a pointer to
     /// a function or a trait object; else it is what its first token says. It is refused where none begins, and as its parts are.
-    #[tactic(auto, using(token_core::proofs::Suffixes::follows, syn_forms::proofs::nested_laws::Ahead::later, syn_forms::proofs::verbatim_laws::Reached::later), unfolding(crate::specs::ty::Reading::type_step))]
+    #[tactic(auto, using(token_core::proofs::Suffixes::follows, syn_forms::proofs::verbatim_laws::Reached::later), unfolding(crate::specs::ty::Reading::type_step))]
     pub fn type_step(
         &self,
         input: &mut ParseStream<'_>,
@@ -227,7 +224,6 @@ impl<
         ensures parses { Parses
             (reading.type_step A.reads E.reads (knot.reads_below A.reads E.reads (length self.now.begin)) place)
             result input.old input.new }
-        ensures fewer { ahead input.new ≤ ahead input.old }
     {
         if input.peek::<GroupToken>() {
             return self.group_type(input);

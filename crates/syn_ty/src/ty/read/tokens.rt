@@ -1,8 +1,7 @@
 //! What begins a type, and what holds no tree: tests, tokens alone, and refusals that name what was looked for.
 
-ghost use Rattle.std.specs.Prelude.{◌≡◌, ◌≤◌, [], ◌∷◌, option_map};
+ghost use Rattle.std.specs.Prelude.{◌≡◌, [], ◌∷◌, option_map};
 ghost use Rattle.syn_forms.specs.lists.Reading as lists;
-ghost use Rattle.syn_forms.specs.nested.Below.{ahead};
 ghost use Rattle.syn_forms.specs.tokens.Choices as choices;
 ghost use Rattle.syn_forms.specs.verbatim.Reading as verbatim;
 ghost use Rattle.syn_ty.specs.ty.Reading as reading;
@@ -197,25 +196,23 @@ pub fn parse_optional_abi(alloc: Global, input: &mut ParseStream<'_>) -> Result<
 }
 
 /// `dyn` that may be there.
-#[tactic(auto, using(syn_forms::proofs::nested_laws::Ahead::later), unfolding(crate::specs::ty::Reading::optional_dyn))]
+#[tactic(auto, unfolding(crate::specs::ty::Reading::optional_dyn))]
 pub(crate) fn parse_optional_dyn(
     alloc: Global,
     input: &mut ParseStream<'_>,
 ) -> Result<Option<Dyn>, Error>
     ensures parses { Parses reading.optional_dyn result input.old input.new }
-    ensures fewer { ahead input.new ≤ ahead input.old }
 {
     input.parse_option::<Dyn>(alloc)
 }
 
 /// `*` that may be there.
-#[tactic(auto, using(syn_forms::proofs::nested_laws::Ahead::later), unfolding(crate::specs::ty::Reading::optional_star))]
+#[tactic(auto, unfolding(crate::specs::ty::Reading::optional_star))]
 pub(crate) fn parse_optional_star(
     alloc: Global,
     input: &mut ParseStream<'_>,
 ) -> Result<Option<Star>, Error>
     ensures parses { Parses reading.optional_star result input.old input.new }
-    ensures fewer { ahead input.new ≤ ahead input.old }
 {
     input.parse_option::<Star>(alloc)
 }

@@ -3,19 +3,18 @@ use Rattle.token_core.proofs.Suffixes.{follows_self, follows_trans}
 use Rattle.token_core.proofs.Steps.{chosen, link}
 use Rattle.syn_forms.specs.params.Reading.{given}
 use Rattle.syn_forms.proofs.lists_laws.Turns.{passed_on, stopped}
-use Rattle.syn_forms.proofs.nested_laws.Ahead.{ahead_follows}
 use Rattle.syn_forms.proofs.nested.Nested.default_of.Goals as goal
 
-pub returns-in_err-eq_token-clause-parses : goal.returns-in_err-eq_token-clause-parses
+pub returns-in_err-eq_token : goal.returns-in_err-eq_token
 unfolding given
-returns-in_err-eq_token-clause-parses g c =
-    let e = c.in_err-eq_token.field-0.0 in (
-      passed_on _ _ _ _ e c.from_residual.ensures c.in_err-eq_token.ensures.parses.0 (λ h. chosen _ true _ _ _ _ (sym c.if-not-peek.ensures) (stopped _ e (stopped _ e h))),
-      c.parse_eq.ensures.parses.1,
-    )
-
-pub returns-in_err-eq_token-clause-fewer : goal.returns-in_err-eq_token-clause-fewer
-returns-in_err-eq_token-clause-fewer g c = ahead_follows _ _ c.parse_eq.ensures.parses.1
+returns-in_err-eq_token g c =
+    let e = c.in_err-eq_token.field-0.0 in
+    record {
+      parses = (
+        passed_on _ _ _ _ e c.from_residual.ensures c.in_err-eq_token.ensures.parses.0 (λ h. chosen _ true _ _ _ _ (sym c.if-not-peek.ensures) (stopped _ e (stopped _ e h))),
+        c.parse_eq.ensures.parses.1,
+      );
+    }
 
 pub value-requires-clause-few : goal.value-requires-clause-few
 value-requires-clause-few g c =
@@ -23,29 +22,30 @@ value-requires-clause-few g c =
     let less = c.in_ok-eq_token.ensures.taken in
     omega (arith, few, less)
 
-pub returns-in_err-default-clause-parses : goal.returns-in_err-default-clause-parses
+pub returns-in_err-default : goal.returns-in_err-default
 unfolding given
-returns-in_err-default-clause-parses g c =
-    let e = c.in_err-default.field-0.0 in (
-      passed_on _ _ _ _ e c.from_residual-in_err-default.ensures c.in_err-default.ensures.parses.0 (λ h. chosen _ true _ _ _ _ (sym c.if-not-peek.ensures) (stopped _ e (link _ c.in_ok-eq_token.ensures.parses.0 (stopped _ e h)))),
-      follows_trans _ _ _ c.parse_eq.ensures.parses.1 c.value.ensures.parses.1,
-    )
+returns-in_err-default g c =
+    let e = c.in_err-default.field-0.0 in
+    record {
+      parses = (
+        passed_on _ _ _ _ e c.from_residual-in_err-default.ensures c.in_err-default.ensures.parses.0 (λ h. chosen _ true _ _ _ _ (sym c.if-not-peek.ensures) (stopped _ e (link _ c.in_ok-eq_token.ensures.parses.0 (stopped _ e h)))),
+        follows_trans _ _ _ c.parse_eq.ensures.parses.1 c.value.ensures.parses.1,
+      );
+    }
 
-pub returns-in_err-default-clause-fewer : goal.returns-in_err-default-clause-fewer
-returns-in_err-default-clause-fewer g c = ahead_follows _ _ (follows_trans _ _ _ c.parse_eq.ensures.parses.1 c.value.ensures.parses.1)
-
-pub returns-clause-parses : goal.returns-clause-parses
+pub returns : goal.returns
 unfolding given
-returns-clause-parses g c = (
-  chosen _ true _ _ _ _ (sym c.if-not-peek.ensures) (link _ (link _ c.in_ok-eq_token.ensures.parses.0 (link _ c.in_ok-default.ensures.parses.0 refl)) refl),
-  follows_trans _ _ _ c.parse_eq.ensures.parses.1 c.value.ensures.parses.1,
-)
+returns g c = record {
+  parses = (
+    chosen _ true _ _ _ _ (sym c.if-not-peek.ensures) (link _ (link _ c.in_ok-eq_token.ensures.parses.0 (link _ c.in_ok-default.ensures.parses.0 refl)) refl),
+    follows_trans _ _ _ c.parse_eq.ensures.parses.1 c.value.ensures.parses.1,
+  );
+}
 
-pub returns-clause-fewer : goal.returns-clause-fewer
-returns-clause-fewer g c = ahead_follows _ _ (follows_trans _ _ _ c.parse_eq.ensures.parses.1 c.value.ensures.parses.1)
-
-pub returns-then-not-peek-clause-parses : goal.returns-then-not-peek-clause-parses
-returns-then-not-peek-clause-parses g c = (
-  chosen _ false _ _ _ _ (sym c.if-not-peek.ensures) refl,
-  follows_self _,
-)
+pub returns-then-not-peek : goal.returns-then-not-peek
+returns-then-not-peek g c = record {
+  parses = (
+    chosen _ false _ _ _ _ (sym c.if-not-peek.ensures) refl,
+    follows_self _,
+  );
+}

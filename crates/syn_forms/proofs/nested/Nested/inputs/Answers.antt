@@ -59,7 +59,7 @@ returns-then-is_empty-2 g c =
 pub turn-smaller : goal.turn-smaller
 turn-smaller g c =
     let le = ahead_follows c.turn.input c.read_outer.new.input c.read_outer.ensures.within in
-    let fewer = c.argument.ensures.fewer in
+    let fewer = ahead_follows _ _ c.argument.ensures.parses.1 in
     let less = c.in_ok-parse_comma.ensures.taken in
     omega (arith, le, fewer, less)
 

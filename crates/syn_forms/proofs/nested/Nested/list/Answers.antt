@@ -14,10 +14,7 @@ list_after-requires-clause-few g c = c.requires.few
 pub list_after-requires-clause-whole : goal.list_after-requires-clause-whole
 list_after-requires-clause-whole g c = new_whole _ c.new.ensures
 
-pub returns-clause-parses : goal.returns-clause-parses
-returns-clause-parses g c =
+pub returns : goal.returns
+returns g c =
     let values = reading.list (g.S.End.stops c.args.end) (held g.T.Tree.read (length c.args.self.now.begin) c.args.place) (g.S.End.more c.args.end) (g.S.End.joint c.args.end) true c.args.input.now in
-    (told_by _ _ (sym (none_yet_at values) ∙ ap (λ z. after z values) (sym c.new.ensures)) c.list_after.ensures.parses.0, c.list_after.ensures.parses.1)
-
-pub returns-clause-fewer : goal.returns-clause-fewer
-returns-clause-fewer g c = c.list_after.ensures.fewer
+    record { parses = (told_by _ _ (sym (none_yet_at values) ∙ ap (λ z. after z values) (sym c.new.ensures)) c.list_after.ensures.parses.0, c.list_after.ensures.parses.1) }

@@ -6,7 +6,7 @@ use Rattle.token_core.proofs.Suffixes.{follows_self, follows_trans}
 use Rattle.syn_forms.specs.nested.Below.{held}
 use Rattle.syn_forms.specs.lists.Reading.{list}
 use Rattle.syn_forms.proofs.lists_laws.Turns.{Told, last, marked_whole, next, no_memory, over, passed_on, put_whole, refused, start, stopped, stuck}
-use Rattle.syn_forms.proofs.nested_laws.Ahead.{fewer_tokens}
+use Rattle.syn_forms.proofs.nested_laws.Ahead.{ahead_follows, fewer_tokens}
 use Rattle.syn_forms.proofs.nested.Nested.made_after.Goals as goal
 
 pub turn-init : goal.turn-init
@@ -94,7 +94,7 @@ returns-in_err-push_punct g c = record { parses = (no_memory _ _ _ c.from_residu
 
 pub turn-smaller : goal.turn-smaller
 turn-smaller g c =
-    let fewer = c.boxed.ensures.fewer in
+    let fewer = ahead_follows _ _ c.boxed.ensures.parses.1 in
     let less = c.in_ok-parse_joint.ensures.taken in
     omega (arith, fewer, less)
 
@@ -110,7 +110,7 @@ turn-preserved g c =
     let marked = c.in_ok-push_punct.ensures.ok in
     let v : c.push_punct.new.self ≡ (c.turn.list.0 ++ g.K.Make.make c.args.make c.in_ok-value.value ∷ [], c.turn.list.1 ++ c.in_ok-parse_joint.field-0 ∷ []) = marked ∙ ap (λ z. (z.0, z.1 ++ c.in_ok-parse_joint.field-0 ∷ [])) put in
     let few = c.turn.invariant.few in
-    let fewer = c.boxed.ensures.fewer in
+    let fewer = ahead_follows _ _ c.boxed.ensures.parses.1 in
     let taken = c.in_ok-parse_joint.ensures.taken in
     let less : size c.parse_joint.new.input.rest < size c.turn.input.rest = fewer_tokens c.turn.input c.boxed.new.input c.parse_joint.new.input c.boxed.ensures.parses.1 c.parse_joint.ensures.parses.1 taken in
     record {

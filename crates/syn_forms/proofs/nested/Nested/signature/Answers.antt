@@ -6,40 +6,39 @@ use Rattle.syn_forms.proofs.lists_laws.Turns.{passed_on, stopped}
 use Rattle.syn_forms.proofs.nested_laws.Ahead.{ahead_follows}
 use Rattle.syn_forms.proofs.nested.Nested.signature.Goals as goal
 
-pub returns-in_err-paren_token-clause-parses : goal.returns-in_err-paren_token-clause-parses
+pub returns-in_err-paren_token : goal.returns-in_err-paren_token
 unfolding signature
-returns-in_err-paren_token-clause-parses g c =
-    let e = c.in_err-paren_token.field-0.0 in (
-      passed_on _ _ _ _ e c.from_residual.ensures c.in_err-paren_token.ensures.parses.0 (λ h. stopped _ e h),
-      c.made_in_parens.ensures.parses.1,
-    )
-
-pub returns-in_err-paren_token-clause-fewer : goal.returns-in_err-paren_token-clause-fewer
-returns-in_err-paren_token-clause-fewer g c = ahead_follows _ _ c.made_in_parens.ensures.parses.1
+returns-in_err-paren_token g c =
+    let e = c.in_err-paren_token.field-0.0 in
+    record {
+      parses = (
+        passed_on _ _ _ _ e c.from_residual.ensures c.in_err-paren_token.ensures.parses.0 (λ h. stopped _ e h),
+        c.made_in_parens.ensures.parses.1,
+      );
+    }
 
 pub returned-requires-clause-few : goal.returned-requires-clause-few
 returned-requires-clause-few g c =
     let few = c.requires.few in
-    let le = c.made_in_parens.ensures.fewer in
+    let le = ahead_follows _ _ c.made_in_parens.ensures.parses.1 in
     omega (arith, few, le)
 
-pub returns-in_err-output-clause-parses : goal.returns-in_err-output-clause-parses
+pub returns-in_err-output : goal.returns-in_err-output
 unfolding signature
-returns-in_err-output-clause-parses g c =
-    let e = c.in_err-output.field-0.0 in (
-      passed_on _ _ _ _ e c.from_residual-in_err-output.ensures c.in_err-output.ensures.parses.0 (λ h. link _ c.in_ok-paren_token.ensures.parses.0 (stopped _ e h)),
-      follows_trans _ _ _ c.made_in_parens.ensures.parses.1 c.returned.ensures.parses.1,
-    )
+returns-in_err-output g c =
+    let e = c.in_err-output.field-0.0 in
+    record {
+      parses = (
+        passed_on _ _ _ _ e c.from_residual-in_err-output.ensures c.in_err-output.ensures.parses.0 (λ h. link _ c.in_ok-paren_token.ensures.parses.0 (stopped _ e h)),
+        follows_trans _ _ _ c.made_in_parens.ensures.parses.1 c.returned.ensures.parses.1,
+      );
+    }
 
-pub returns-in_err-output-clause-fewer : goal.returns-in_err-output-clause-fewer
-returns-in_err-output-clause-fewer g c = ahead_follows _ _ (follows_trans _ _ _ c.made_in_parens.ensures.parses.1 c.returned.ensures.parses.1)
-
-pub returns-clause-parses : goal.returns-clause-parses
+pub returns : goal.returns
 unfolding signature
-returns-clause-parses g c = (
-  link _ c.in_ok-paren_token.ensures.parses.0 (link _ c.in_ok-output.ensures.parses.0 refl),
-  follows_trans _ _ _ c.made_in_parens.ensures.parses.1 c.returned.ensures.parses.1,
-)
-
-pub returns-clause-fewer : goal.returns-clause-fewer
-returns-clause-fewer g c = ahead_follows _ _ (follows_trans _ _ _ c.made_in_parens.ensures.parses.1 c.returned.ensures.parses.1)
+returns g c = record {
+  parses = (
+    link _ c.in_ok-paren_token.ensures.parses.0 (link _ c.in_ok-output.ensures.parses.0 refl),
+    follows_trans _ _ _ c.made_in_parens.ensures.parses.1 c.returned.ensures.parses.1,
+  );
+}

@@ -3,6 +3,7 @@ use Rattle.token_core.proofs.Suffixes.{follows_self, follows_trans}
 use Rattle.token_core.proofs.Steps.{chosen, link}
 use Rattle.syn_forms.specs.groups.Reading.{tuple_content}
 use Rattle.syn_forms.proofs.lists_laws.Turns.{passed_on, stopped, told_by}
+use Rattle.syn_forms.proofs.nested_laws.Ahead.{ahead_follows}
 use Rattle.syn_forms.proofs.nested.Nested.tuple_content.Goals as goal
 
 pub returns-then-is_empty : goal.returns-then-is_empty
@@ -27,7 +28,7 @@ more_elements-requires-clause-nests g c = c.requires.nests
 pub more_elements-requires-clause-few : goal.more_elements-requires-clause-few
 more_elements-requires-clause-few g c =
     let few = c.requires.few in
-    let le = c.value.ensures.fewer in
+    let le = ahead_follows _ _ c.value.ensures.parses.1 in
     omega (arith, few, le)
 
 pub returns : goal.returns

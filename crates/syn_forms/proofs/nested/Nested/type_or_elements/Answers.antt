@@ -4,6 +4,7 @@ use Rattle.token_core.proofs.Steps.{chosen, link}
 use Rattle.syn_forms.specs.lists.Reading.{more_elements}
 use Rattle.syn_forms.specs.nested.Below.{held}
 use Rattle.syn_forms.proofs.lists_laws.Turns.{passed_on, stopped}
+use Rattle.syn_forms.proofs.nested_laws.Ahead.{ahead_follows}
 use Rattle.syn_forms.proofs.nested.Nested.type_or_elements.Goals as goal
 
 pub boxed-requires-clause-nests : goal.boxed-requires-clause-nests
@@ -28,7 +29,7 @@ more_elements-requires-clause-nests g c = c.requires.nests
 pub more_elements-requires-clause-few : goal.more_elements-requires-clause-few
 more_elements-requires-clause-few g c =
     let few = c.requires.few in
-    let le = c.boxed.ensures.fewer in
+    let le = ahead_follows _ _ c.boxed.ensures.parses.1 in
     omega (arith, few, le)
 
 pub returns-in_err-elems : goal.returns-in_err-elems

@@ -3,7 +3,6 @@ use Rattle.token_core.proofs.Suffixes.{follows_self}
 use Rattle.token_core.proofs.Steps.{chosen, link}
 use Rattle.syn_forms.specs.paths.Reading.{with_arguments}
 use Rattle.syn_forms.proofs.lists_laws.Turns.{passed_on, stopped}
-use Rattle.syn_forms.proofs.nested_laws.Ahead.{ahead_follows}
 use Rattle.syn_forms.proofs.paths.Nested+unit+G+F.named_segment.Goals as goal
 
 pub boxed-requires-clause-nests : goal.boxed-requires-clause-nests
@@ -12,22 +11,13 @@ boxed-requires-clause-nests g c = c.requires.nests
 pub boxed-requires-clause-few : goal.boxed-requires-clause-few
 boxed-requires-clause-few g c = c.requires.few
 
-pub returns-in_err-arguments-clause-parses : goal.returns-in_err-arguments-clause-parses
-returns-in_err-arguments-clause-parses g c =
+pub returns-in_err-arguments : goal.returns-in_err-arguments
+returns-in_err-arguments g c =
     let e = c.in_err-arguments.field-0.0 in
-    (passed_on _ _ _ _ e c.from_residual.ensures c.in_err-arguments.ensures.parses.0 (λ h. chosen _ true _ _ _ _ (sym c.if-peek_arguments.ensures) (stopped _ e h)), c.boxed.ensures.parses.1)
+    record { parses = (passed_on _ _ _ _ e c.from_residual.ensures c.in_err-arguments.ensures.parses.0 (λ h. chosen _ true _ _ _ _ (sym c.if-peek_arguments.ensures) (stopped _ e h)), c.boxed.ensures.parses.1) }
 
-pub returns-in_err-arguments-clause-fewer : goal.returns-in_err-arguments-clause-fewer
-returns-in_err-arguments-clause-fewer g c = c.boxed.ensures.fewer
+pub returns-then-peek_arguments : goal.returns-then-peek_arguments
+returns-then-peek_arguments g c = record { parses = (chosen _ true _ _ _ _ (sym c.if-peek_arguments.ensures) (link _ c.in_ok-arguments.ensures.parses.0 (ap (λ z. Ok (with_arguments c.args.ident z, c.boxed.new.input)) (sym c.into_inner.ensures))), c.boxed.ensures.parses.1) }
 
-pub returns-then-peek_arguments-clause-parses : goal.returns-then-peek_arguments-clause-parses
-returns-then-peek_arguments-clause-parses g c = (chosen _ true _ _ _ _ (sym c.if-peek_arguments.ensures) (link _ c.in_ok-arguments.ensures.parses.0 (ap (λ z. Ok (with_arguments c.args.ident z, c.boxed.new.input)) (sym c.into_inner.ensures))), c.boxed.ensures.parses.1)
-
-pub returns-then-peek_arguments-clause-fewer : goal.returns-then-peek_arguments-clause-fewer
-returns-then-peek_arguments-clause-fewer g c = c.boxed.ensures.fewer
-
-pub returns-clause-parses : goal.returns-clause-parses
-returns-clause-parses g c = (chosen _ false _ _ _ _ (sym c.if-peek_arguments.ensures) (ap (λ z. Ok (z, c.args.input.now)) (sym c.from.ensures)), follows_self _)
-
-pub returns-clause-fewer : goal.returns-clause-fewer
-returns-clause-fewer g c = ahead_follows _ _ (follows_self c.args.input.now)
+pub returns : goal.returns
+returns g c = record { parses = (chosen _ false _ _ _ _ (sym c.if-peek_arguments.ensures) (ap (λ z. Ok (z, c.args.input.now)) (sym c.from.ensures)), follows_self _) }

@@ -17,9 +17,6 @@ returns-in_err-leading_colon-clause-parses g c =
       c.parse_leading.ensures.parses.1,
     )
 
-pub returns-in_err-leading_colon-clause-fewer : goal.returns-in_err-leading_colon-clause-fewer
-returns-in_err-leading_colon-clause-fewer g c = ahead_follows _ _ c.parse_leading.ensures.parses.1
-
 pub segments_after-requires-clause-few : goal.segments_after-requires-clause-few
 segments_after-requires-clause-few g c =
     let few = c.requires.few in
@@ -37,15 +34,9 @@ returns-in_err-segments-clause-parses g c =
       follows_trans _ _ _ c.parse_leading.ensures.parses.1 c.segments_after.ensures.parses.1,
     )
 
-pub returns-in_err-segments-clause-fewer : goal.returns-in_err-segments-clause-fewer
-returns-in_err-segments-clause-fewer g c = ahead_follows _ _ (follows_trans _ _ _ c.parse_leading.ensures.parses.1 c.segments_after.ensures.parses.1)
-
 pub returns-clause-parses : goal.returns-clause-parses
 unfolding path
 returns-clause-parses g c = (
   link _ c.in_ok-leading_colon.ensures.parses.0 (link _ (sym (none_yet_at _) ∙ ap (λ v. after v (segments g.G.Arguments.absent (held g.G.Tree.read (length c.args.self.now.begin) tt) goes_on c.args.style c.parse_leading.new.input)) (sym c.new.ensures) ∙ c.in_ok-segments.ensures.parses.0) refl),
   follows_trans _ _ _ c.parse_leading.ensures.parses.1 c.segments_after.ensures.parses.1,
 )
-
-pub returns-clause-fewer : goal.returns-clause-fewer
-returns-clause-fewer g c = ahead_follows _ _ (follows_trans _ _ _ c.parse_leading.ensures.parses.1 c.segments_after.ensures.parses.1)

@@ -1,8 +1,9 @@
-use Rattle.std.proofs.Common.{true, false, refl, sym, arith}
+use Rattle.std.proofs.Common.{Result, Ok, Err, IfOk, true, false, refl, sym, arith}
 use Rattle.token_core.proofs.Suffixes.{follows_trans}
 use Rattle.token_core.proofs.Steps.{chosen, link}
 use Rattle.syn_forms.specs.paths.Reading.{segment}
 use Rattle.syn_forms.proofs.lists_laws.Turns.{passed_on, stopped, told_by}
+use Rattle.syn_forms.proofs.nested_laws.Ahead.{ahead_follows}
 use Rattle.syn_forms.proofs.paths.Nested+unit+G+F.segment.Goals as goal
 
 pub returns-in_err-parse_any_ident-clause-parses : goal.returns-in_err-parse_any_ident-clause-parses
@@ -32,3 +33,13 @@ returns-clause-parses g c = (
   told_by _ _ (chosen _ false _ _ _ _ (sym c.if-peek_bare_word.ensures) (link _ c.in_ok-ident.ensures.parses.0 refl)) c.named_segment.ensures.parses.0,
   follows_trans _ _ _ c.parse_named_word.ensures.parses.1 c.named_segment.ensures.parses.1,
 )
+
+pub returns-clause-taken : goal.returns-clause-taken
+returns-clause-taken g c =
+    let less = c.in_ok-ident.ensures.taken in
+    let le = ahead_follows _ _ c.named_segment.ensures.parses.1 in
+    by_result c.named_segment.result (omega (arith, less, le))
+  where
+    by_result : {A E P : Type 0} (r : Result A E) → P → IfOk r (λ _. P)
+    by_result (Ok x) p = p
+    by_result (Err e) p = tt

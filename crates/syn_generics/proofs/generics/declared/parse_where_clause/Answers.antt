@@ -5,6 +5,7 @@ use Rattle.token_core.proofs.Suffixes.{follows_trans}
 use Rattle.token_core.proofs.Steps.{link}
 use Rattle.syn_forms.specs.nested.Below.{held}
 use Rattle.syn_forms.proofs.lists_laws.Turns.{passed_on, stopped}
+use Rattle.syn_forms.proofs.nested_laws.Ahead.{ahead_follows}
 use Rattle.syn_generics.proofs.generics.declared.parse_where_clause.Goals as goal
 
 pub returns-in_err-where_token : goal.returns-in_err-where_token
@@ -40,7 +41,7 @@ pub parse_predicates-requires : goal.parse_predicates-requires
 parse_predicates-requires g c =
     let is = ap length c.cursor-begin.ensures in
     let less = c.in_ok-where_token.ensures.taken in
-    let le = c.no_generics.ensures.fewer in
+    let le = ahead_follows _ _ c.no_generics.ensures.parses.1 in
     record { few = omega (arith, is, less, le) }
 
 pub returns : goal.returns

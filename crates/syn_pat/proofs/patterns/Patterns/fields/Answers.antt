@@ -74,7 +74,7 @@ returns-then-is_empty-2 g c =
 pub turn-smaller : goal.turn-smaller
 turn-smaller g c =
     let le = ahead_follows c.turn.input c.parse_outer.new.input c.parse_outer.ensures.parses.1 in
-    let fewer = c.field.ensures.fewer in
+    let fewer = ahead_follows _ _ c.field.ensures.parses.1 in
     let less = c.in_ok-parse_comma.ensures.taken in
     omega (arith, le, fewer, less)
 

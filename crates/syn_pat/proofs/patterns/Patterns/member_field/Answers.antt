@@ -10,14 +10,11 @@ use Rattle.syn_forms.proofs.lists_laws.Turns.{passed_on, stopped}
 use Rattle.syn_forms.proofs.nested_laws.Ahead.{ahead_follows}
 use Rattle.syn_pat.proofs.patterns.Patterns.member_field.Goals as goal
 
-pub returns-in_err-colon_token-clause-parses : goal.returns-in_err-colon_token-clause-parses
+pub returns-in_err-colon_token : goal.returns-in_err-colon_token
 unfolding member_field
-returns-in_err-colon_token-clause-parses g c =
+returns-in_err-colon_token g c =
     let e = c.in_err-colon_token.field-0.0 in
-    (passed_on _ _ _ _ e c.from_residual.ensures c.in_err-colon_token.ensures.parses.0 (λ h. stopped _ e h), c.parse_colon.ensures.parses.1)
-
-pub returns-in_err-colon_token-clause-fewer : goal.returns-in_err-colon_token-clause-fewer
-returns-in_err-colon_token-clause-fewer g c = ahead_follows _ _ c.parse_colon.ensures.parses.1
+    record { parses = (passed_on _ _ _ _ e c.from_residual.ensures c.in_err-colon_token.ensures.parses.0 (λ h. stopped _ e h), c.parse_colon.ensures.parses.1) }
 
 pub boxed-requires-clause-few : goal.boxed-requires-clause-few
 boxed-requires-clause-few g c =
@@ -26,25 +23,25 @@ boxed-requires-clause-few g c =
     let le = ahead_follows _ _ c.parse_colon.ensures.parses.1 in
     omega (arith, few, is, le)
 
-pub returns-in_err-pat-clause-parses : goal.returns-in_err-pat-clause-parses
+pub returns-in_err-pat : goal.returns-in_err-pat
 unfolding member_field
-returns-in_err-pat-clause-parses g c =
+returns-in_err-pat g c =
     let e = c.in_err-pat.field-0.0 in
-    let same = ap (λ (b : List Item). pats_below {T = g.row.T.Denot} g.X.Subtree.reads (named g.Q.Qualifier.reads g.G.Arguments.is_absent) (length b) LeadingVert c.parse_colon.new.input) (sym c.patterns.ensures.begin) in (
-      passed_on _ _ _ _ e c.from_residual-in_err-pat.ensures c.in_err-pat.ensures.parses.0 (λ h. link _ c.in_ok-colon_token.ensures.parses.0 (stopped _ e (same ∙ h))),
-      follows_trans _ _ _ c.parse_colon.ensures.parses.1 c.boxed.ensures.parses.1,
-    )
+    let same = ap (λ (b : List Item). pats_below {T = g.row.T.Denot} g.X.Subtree.reads (named g.Q.Qualifier.reads g.G.Arguments.is_absent) (length b) LeadingVert c.parse_colon.new.input) (sym c.patterns.ensures.begin) in
+    record {
+      parses = (
+        passed_on _ _ _ _ e c.from_residual-in_err-pat.ensures c.in_err-pat.ensures.parses.0 (λ h. link _ c.in_ok-colon_token.ensures.parses.0 (stopped _ e (same ∙ h))),
+        follows_trans _ _ _ c.parse_colon.ensures.parses.1 c.boxed.ensures.parses.1,
+      );
+    }
 
-pub returns-in_err-pat-clause-fewer : goal.returns-in_err-pat-clause-fewer
-returns-in_err-pat-clause-fewer g c = ahead_follows _ _ (follows_trans _ _ _ c.parse_colon.ensures.parses.1 c.boxed.ensures.parses.1)
-
-pub returns-clause-parses : goal.returns-clause-parses
+pub returns : goal.returns
 unfolding member_field
-returns-clause-parses g c =
-    let same = ap (λ (b : List Item). pats_below {T = g.row.T.Denot} g.X.Subtree.reads (named g.Q.Qualifier.reads g.G.Arguments.is_absent) (length b) LeadingVert c.parse_colon.new.input) (sym c.patterns.ensures.begin) in (
-      link _ c.in_ok-colon_token.ensures.parses.0 (link _ (same ∙ c.in_ok-pat.ensures.parses.0) refl),
-      follows_trans _ _ _ c.parse_colon.ensures.parses.1 c.boxed.ensures.parses.1,
-    )
-
-pub returns-clause-fewer : goal.returns-clause-fewer
-returns-clause-fewer g c = ahead_follows _ _ (follows_trans _ _ _ c.parse_colon.ensures.parses.1 c.boxed.ensures.parses.1)
+returns g c =
+    let same = ap (λ (b : List Item). pats_below {T = g.row.T.Denot} g.X.Subtree.reads (named g.Q.Qualifier.reads g.G.Arguments.is_absent) (length b) LeadingVert c.parse_colon.new.input) (sym c.patterns.ensures.begin) in
+    record {
+      parses = (
+        link _ c.in_ok-colon_token.ensures.parses.0 (link _ (same ∙ c.in_ok-pat.ensures.parses.0) refl),
+        follows_trans _ _ _ c.parse_colon.ensures.parses.1 c.boxed.ensures.parses.1,
+      );
+    }

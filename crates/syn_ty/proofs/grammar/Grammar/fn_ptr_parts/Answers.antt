@@ -6,23 +6,19 @@ use Rattle.syn_forms.proofs.nested_laws.Ahead.{ahead_follows}
 use Rattle.syn_ty.specs.ty.Reading.{fn_ptr_parts}
 use Rattle.syn_ty.proofs.grammar.Grammar.fn_ptr_parts.Goals as goal
 
-pub returns-in_err-parse_fn_head-clause-parses : goal.returns-in_err-parse_fn_head-clause-parses
+pub returns-in_err-parse_fn_head : goal.returns-in_err-parse_fn_head
 unfolding fn_ptr_parts
-returns-in_err-parse_fn_head-clause-parses g c =
-    let e = c.in_err-parse_fn_head.field-0.0 in (
-      passed_on _ _ _ _ e c.from_residual.ensures c.in_err-parse_fn_head.ensures.parses.0 (λ h. stopped _ e h),
-      c.parse_fn_head.ensures.parses.1,
-    )
+returns-in_err-parse_fn_head g c =
+    let e = c.in_err-parse_fn_head.field-0.0 in
+    record {
+      parses = (
+        passed_on _ _ _ _ e c.from_residual.ensures c.in_err-parse_fn_head.ensures.parses.0 (λ h. stopped _ e h),
+        c.parse_fn_head.ensures.parses.1,
+      );
+    }
 
-pub returns-in_err-parse_fn_head-clause-fewer : goal.returns-in_err-parse_fn_head-clause-fewer
-returns-in_err-parse_fn_head-clause-fewer g c = ahead_follows _ _ c.parse_fn_head.ensures.parses.1
-
-pub returns-in_err-head-clause-parses : goal.returns-in_err-head-clause-parses
-returns-in_err-head-clause-parses g c =
-    (no_memory _ _ _ c.from_residual-in_err-head.ensures, c.parse_fn_head.ensures.parses.1)
-
-pub returns-in_err-head-clause-fewer : goal.returns-in_err-head-clause-fewer
-returns-in_err-head-clause-fewer g c = ahead_follows _ _ c.parse_fn_head.ensures.parses.1
+pub returns-in_err-head : goal.returns-in_err-head
+returns-in_err-head g c = record { parses = (no_memory _ _ _ c.from_residual-in_err-head.ensures, c.parse_fn_head.ensures.parses.1) }
 
 pub fn_ptr_inputs-requires-clause-few : goal.fn_ptr_inputs-requires-clause-few
 fn_ptr_inputs-requires-clause-few g c =
@@ -30,23 +26,19 @@ fn_ptr_inputs-requires-clause-few g c =
     let le = ahead_follows _ _ c.parse_fn_head.ensures.parses.1 in
     omega (arith, few, le)
 
-pub returns-in_err-fn_ptr_inputs-clause-parses : goal.returns-in_err-fn_ptr_inputs-clause-parses
+pub returns-in_err-fn_ptr_inputs : goal.returns-in_err-fn_ptr_inputs
 unfolding fn_ptr_parts
-returns-in_err-fn_ptr_inputs-clause-parses g c =
-    let e = c.in_err-fn_ptr_inputs.field-0.0 in (
-      passed_on _ _ _ _ e c.from_residual-in_err-fn_ptr_inputs.ensures c.in_err-fn_ptr_inputs.ensures.parses.0 (λ h. link _ c.in_ok-parse_fn_head.ensures.parses.0 (stopped _ e h)),
-      follows_trans _ _ _ c.parse_fn_head.ensures.parses.1 c.fn_ptr_inputs.ensures.parses.1,
-    )
+returns-in_err-fn_ptr_inputs g c =
+    let e = c.in_err-fn_ptr_inputs.field-0.0 in
+    record {
+      parses = (
+        passed_on _ _ _ _ e c.from_residual-in_err-fn_ptr_inputs.ensures c.in_err-fn_ptr_inputs.ensures.parses.0 (λ h. link _ c.in_ok-parse_fn_head.ensures.parses.0 (stopped _ e h)),
+        follows_trans _ _ _ c.parse_fn_head.ensures.parses.1 c.fn_ptr_inputs.ensures.parses.1,
+      );
+    }
 
-pub returns-in_err-fn_ptr_inputs-clause-fewer : goal.returns-in_err-fn_ptr_inputs-clause-fewer
-returns-in_err-fn_ptr_inputs-clause-fewer g c = ahead_follows _ _ (follows_trans _ _ _ c.parse_fn_head.ensures.parses.1 c.fn_ptr_inputs.ensures.parses.1)
-
-pub returns-in_err-inputs-clause-parses : goal.returns-in_err-inputs-clause-parses
-returns-in_err-inputs-clause-parses g c =
-    (no_memory _ _ _ c.from_residual-in_err-inputs.ensures, follows_trans _ _ _ c.parse_fn_head.ensures.parses.1 c.fn_ptr_inputs.ensures.parses.1)
-
-pub returns-in_err-inputs-clause-fewer : goal.returns-in_err-inputs-clause-fewer
-returns-in_err-inputs-clause-fewer g c = ahead_follows _ _ (follows_trans _ _ _ c.parse_fn_head.ensures.parses.1 c.fn_ptr_inputs.ensures.parses.1)
+pub returns-in_err-inputs : goal.returns-in_err-inputs
+returns-in_err-inputs g c = record { parses = (no_memory _ _ _ c.from_residual-in_err-inputs.ensures, follows_trans _ _ _ c.parse_fn_head.ensures.parses.1 c.fn_ptr_inputs.ensures.parses.1) }
 
 pub return_type-requires-clause-few : goal.return_type-requires-clause-few
 return_type-requires-clause-few g c =
@@ -54,16 +46,13 @@ return_type-requires-clause-few g c =
     let le = ahead_follows _ _ (follows_trans _ _ _ c.parse_fn_head.ensures.parses.1 c.fn_ptr_inputs.ensures.parses.1) in
     omega (arith, few, le)
 
-pub returns-in_err-output-clause-parses : goal.returns-in_err-output-clause-parses
+pub returns-in_err-output : goal.returns-in_err-output
 unfolding fn_ptr_parts
-returns-in_err-output-clause-parses g c =
-    let e = c.in_err-output.field-0.0 in (
-      passed_on _ _ _ _ e c.from_residual-in_err-output.ensures c.in_err-output.ensures.parses.0 (λ h. link _ c.in_ok-parse_fn_head.ensures.parses.0 (link _ c.in_ok-fn_ptr_inputs.ensures.parses.0 (stopped _ e h))),
-      follows_trans _ _ _ c.parse_fn_head.ensures.parses.1 (follows_trans _ _ _ c.fn_ptr_inputs.ensures.parses.1 c.return_type.ensures.parses.1),
-    )
-
-pub returns-in_err-output-clause-fewer : goal.returns-in_err-output-clause-fewer
-returns-in_err-output-clause-fewer g c = ahead_follows _ _ (follows_trans _ _ _ c.parse_fn_head.ensures.parses.1 (follows_trans _ _ _ c.fn_ptr_inputs.ensures.parses.1 c.return_type.ensures.parses.1))
-
-pub returns-clause-fewer : goal.returns-clause-fewer
-returns-clause-fewer g c = ahead_follows _ _ (follows_trans _ _ _ c.parse_fn_head.ensures.parses.1 (follows_trans _ _ _ c.fn_ptr_inputs.ensures.parses.1 c.return_type.ensures.parses.1))
+returns-in_err-output g c =
+    let e = c.in_err-output.field-0.0 in
+    record {
+      parses = (
+        passed_on _ _ _ _ e c.from_residual-in_err-output.ensures c.in_err-output.ensures.parses.0 (λ h. link _ c.in_ok-parse_fn_head.ensures.parses.0 (link _ c.in_ok-fn_ptr_inputs.ensures.parses.0 (stopped _ e h))),
+        follows_trans _ _ _ c.parse_fn_head.ensures.parses.1 (follows_trans _ _ _ c.fn_ptr_inputs.ensures.parses.1 c.return_type.ensures.parses.1),
+      );
+    }

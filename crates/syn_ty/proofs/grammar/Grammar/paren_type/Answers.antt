@@ -6,16 +6,16 @@ use Rattle.syn_forms.proofs.nested_laws.Ahead.{ahead_follows}
 use Rattle.syn_ty.specs.ty.Reading.{paren_type}
 use Rattle.syn_ty.proofs.grammar.Grammar.paren_type.Goals as goal
 
-pub returns-in_err-paren_token-clause-parses : goal.returns-in_err-paren_token-clause-parses
+pub returns-in_err-paren_token : goal.returns-in_err-paren_token
 unfolding paren_type
-returns-in_err-paren_token-clause-parses g c =
-    let e = c.in_err-paren_token.field-0.0 in (
-      passed_on _ _ _ _ e c.from_residual.ensures c.in_err-paren_token.ensures.parses.0 (λ h. stopped _ e h),
-      c.parens.ensures.parses.1,
-    )
-
-pub returns-in_err-paren_token-clause-fewer : goal.returns-in_err-paren_token-clause-fewer
-returns-in_err-paren_token-clause-fewer g c = ahead_follows _ _ c.parens.ensures.parses.1
+returns-in_err-paren_token g c =
+    let e = c.in_err-paren_token.field-0.0 in
+    record {
+      parses = (
+        passed_on _ _ _ _ e c.from_residual.ensures c.in_err-paren_token.ensures.parses.0 (λ h. stopped _ e h),
+        c.parens.ensures.parses.1,
+      );
+    }
 
 pub of_parens-requires-clause-few : goal.of_parens-requires-clause-few
 of_parens-requires-clause-few g c =
@@ -23,12 +23,11 @@ of_parens-requires-clause-few g c =
     let le = ahead_follows _ _ c.parens.ensures.parses.1 in
     omega (arith, few, le)
 
-pub returns-clause-parses : goal.returns-clause-parses
+pub returns : goal.returns
 unfolding paren_type
-returns-clause-parses g c = (
-  told_by _ _ (link _ c.in_ok-paren_token.ensures.parses.0 refl) c.of_parens.ensures.parses.0,
-  follows_trans _ _ _ c.parens.ensures.parses.1 c.of_parens.ensures.parses.1,
-)
-
-pub returns-clause-fewer : goal.returns-clause-fewer
-returns-clause-fewer g c = ahead_follows _ _ (follows_trans _ _ _ c.parens.ensures.parses.1 c.of_parens.ensures.parses.1)
+returns g c = record {
+  parses = (
+    told_by _ _ (link _ c.in_ok-paren_token.ensures.parses.0 refl) c.of_parens.ensures.parses.0,
+    follows_trans _ _ _ c.parens.ensures.parses.1 c.of_parens.ensures.parses.1,
+  );
+}

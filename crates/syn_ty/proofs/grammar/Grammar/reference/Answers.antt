@@ -3,7 +3,6 @@ use Rattle.token_core.proofs.Steps.{link}
 use Rattle.syn_forms.specs.declared.places.TypePlace.TheVariants.{NoPlus}
 use Rattle.syn_forms.specs.nested.Below.{ahead, held}
 use Rattle.syn_forms.proofs.lists_laws.Turns.{passed_on, stopped}
-use Rattle.syn_forms.proofs.nested_laws.Ahead.{ahead_follows}
 use Rattle.syn_forms.specs.forms.Reading as forms
 use Rattle.syn_ty.specs.ty.Reading.{reference}
 use Rattle.syn_ty.specs.ty.Knot as knot
@@ -12,21 +11,15 @@ use Rattle.syn_ty.proofs.grammar.Grammar.reference.Goals as goal
 pub reference-requires-clause-few : goal.reference-requires-clause-few
 reference-requires-clause-few g c = subst (λ b. ahead c.args.input.now ≤ length b) (sym c.types.ensures.begin) c.requires.few
 
-pub returns-in_err-parts-clause-parses : goal.returns-in_err-parts-clause-parses
+pub returns-in_err-parts : goal.returns-in_err-parts
 unfolding reference
-returns-in_err-parts-clause-parses g c =
+returns-in_err-parts g c =
     let e = c.in_err-parts.field-0.0 in
     let same = ap (λ b. forms.reference (held (knot.ty g.A.Attributes.reads g.E.Value.reads) (length b) NoPlus) c.args.input.now) (sym c.types.ensures.begin) in
-    (passed_on _ _ _ _ e c.from_residual.ensures c.in_err-parts.ensures.parses.0 (λ h. stopped _ e (same ∙ h)), c.reference.ensures.parses.1)
+    record { parses = (passed_on _ _ _ _ e c.from_residual.ensures c.in_err-parts.ensures.parses.0 (λ h. stopped _ e (same ∙ h)), c.reference.ensures.parses.1) }
 
-pub returns-in_err-parts-clause-fewer : goal.returns-in_err-parts-clause-fewer
-returns-in_err-parts-clause-fewer g c = ahead_follows _ _ c.reference.ensures.parses.1
-
-pub returns-clause-parses : goal.returns-clause-parses
+pub returns : goal.returns
 unfolding reference
-returns-clause-parses g c =
+returns g c =
     let same = ap (λ b. forms.reference (held (knot.ty g.A.Attributes.reads g.E.Value.reads) (length b) NoPlus) c.args.input.now) (sym c.types.ensures.begin) in
-    (link _ (same ∙ c.in_ok-parts.ensures.parses.0) (ap (λ z. Ok (z, c.reference.new.input)) (sym c.bare_reference.ensures)), c.reference.ensures.parses.1)
-
-pub returns-clause-fewer : goal.returns-clause-fewer
-returns-clause-fewer g c = ahead_follows _ _ c.reference.ensures.parses.1
+    record { parses = (link _ (same ∙ c.in_ok-parts.ensures.parses.0) (ap (λ z. Ok (z, c.reference.new.input)) (sym c.bare_reference.ensures)), c.reference.ensures.parses.1) }

@@ -14,20 +14,16 @@ told : {A : Type 0} (sees : Toks → Bool) (p : Reader A) (s t : Stream) (o : Op
 told sees p s t (Some x) h = chosen (sees s.rest) true _ _ s _ h.0 (link _ h.1 refl)
 told sees p s t None h = chosen (sees s.rest) false _ _ s _ h.0 (ap (λ z. Ok (None, z)) (sym h.1))
 
-pub returns-in_err-parse_option-clause-fewer : goal.returns-in_err-parse_option-clause-fewer
-returns-in_err-parse_option-clause-fewer g c = ahead_follows _ _ c.parse_option.ensures.within
-
 pub parenthesized-requires-clause-few : goal.parenthesized-requires-clause-few
 parenthesized-requires-clause-few g c =
     let few = c.requires.few in
     let le = ahead_follows _ _ c.parse_option.ensures.within in
     omega (arith, few, le)
 
-pub returns-clause-parses : goal.returns-clause-parses
-returns-clause-parses g c = (
-  told_by c.parenthesized.result c.parenthesized.new.input (link _ (told sees_sep sep _ _ _ c.in_ok-parse_option.ensures.reads) refl) c.parenthesized.ensures.parses.0,
-  follows_trans _ _ _ c.parse_option.ensures.within c.parenthesized.ensures.parses.1,
-)
-
-pub returns-clause-fewer : goal.returns-clause-fewer
-returns-clause-fewer g c = ahead_follows _ _ (follows_trans _ _ _ c.parse_option.ensures.within c.parenthesized.ensures.parses.1)
+pub returns : goal.returns
+returns g c = record {
+  parses = (
+    told_by c.parenthesized.result c.parenthesized.new.input (link _ (told sees_sep sep _ _ _ c.in_ok-parse_option.ensures.reads) refl) c.parenthesized.ensures.parses.0,
+    follows_trans _ _ _ c.parse_option.ensures.within c.parenthesized.ensures.parses.1,
+  );
+}

@@ -7,22 +7,22 @@ use Rattle.syn_ty.proofs.ty_laws.Steps.{as_told, unbound_named, unbound_paren, u
 use Rattle.syn_ty.specs.ty.Knot as knot
 use Rattle.syn_ty.proofs.grammar.Grammar.unbound_type.Goals as goal
 
-pub returns-then-peek-clause-parses : goal.returns-then-peek-clause-parses
-returns-then-peek-clause-parses g c =
+pub returns-then-peek : goal.returns-then-peek
+returns-then-peek g c =
     let h : sees_group d.Parenthesis c.args.input.now.rest ≡ true = first_of (search rules, grind (arith, common_steps)) in
     let r = knot.reads_below g.A.Attributes.reads g.E.Value.reads (length c.args.self.now.begin) in
-    as_told _ _ c.paren_type.result c.args.input.now c.paren_type.new.input (unbound_paren g.A.Attributes.reads g.E.Value.reads r c.args.input.now c.args.place c.args.from.now c.allows_plus-plus.result h c.allows_plus-plus.ensures) c.paren_type.ensures.parses
+    record { parses = as_told _ _ c.paren_type.result c.args.input.now c.paren_type.new.input (unbound_paren g.A.Attributes.reads g.E.Value.reads r c.args.input.now c.args.place c.args.from.now c.allows_plus-plus.result h c.allows_plus-plus.ensures) c.paren_type.ensures.parses }
 
-pub returns-then-begins_named-clause-parses : goal.returns-then-begins_named-clause-parses
-returns-then-begins_named-clause-parses g c =
+pub returns-then-begins_named : goal.returns-then-begins_named
+returns-then-begins_named g c =
     let h : sees_group d.Parenthesis c.args.input.now.rest ≡ false = first_of (search rules, grind (arith, common_steps)) in
     let n : begins_named c.args.input.now.rest ≡ true = first_of (search rules, grind (arith, common_steps)) in
     let r = knot.reads_below g.A.Attributes.reads g.E.Value.reads (length c.args.self.now.begin) in
-    as_told _ _ c.named_type.result c.args.input.now c.named_type.new.input (unbound_named g.A.Attributes.reads g.E.Value.reads r c.args.input.now c.args.place c.args.from.now h n) c.named_type.ensures.parses
+    record { parses = as_told _ _ c.named_type.result c.args.input.now c.named_type.new.input (unbound_named g.A.Attributes.reads g.E.Value.reads r c.args.input.now c.args.place c.args.from.now h n) c.named_type.ensures.parses }
 
-pub returns-clause-parses : goal.returns-clause-parses
-returns-clause-parses g c =
+pub returns : goal.returns
+returns g c =
     let h : sees_group d.Parenthesis c.args.input.now.rest ≡ false = first_of (search rules, grind (arith, common_steps)) in
     let n : begins_named c.args.input.now.rest ≡ false = first_of (search rules, grind (arith, common_steps)) in
     let r = knot.reads_below g.A.Attributes.reads g.E.Value.reads (length c.args.self.now.begin) in
-    as_told _ _ c.by_token.result c.args.input.now c.by_token.new.input (unbound_token g.A.Attributes.reads g.E.Value.reads r c.args.input.now c.args.place c.args.from.now c.allows_plus-plus.result h n c.allows_plus-plus.ensures) c.by_token.ensures.parses
+    record { parses = as_told _ _ c.by_token.result c.args.input.now c.by_token.new.input (unbound_token g.A.Attributes.reads g.E.Value.reads r c.args.input.now c.args.place c.args.from.now c.allows_plus-plus.result h n c.allows_plus-plus.ensures) c.by_token.ensures.parses }

@@ -12,27 +12,27 @@ use Rattle.syn_ty.proofs.grammar.Grammar.unsafe_binder.Goals as goal
 pub since-requires : goal.since-requires
 since-requires g c = record { reached = reached_later _ _ _ c.requires.reached (follows_trans _ _ _ c.parse_unsafe.ensures.parses.1 (follows_trans _ _ _ c.parse_angled_lifetimes.ensures.parses.1 c.boxed.ensures.parses.1)) }
 
-pub returns-in_err-parse_unsafe-clause-parses : goal.returns-in_err-parse_unsafe-clause-parses
+pub returns-in_err-parse_unsafe : goal.returns-in_err-parse_unsafe
 unfolding unsafe_binder
-returns-in_err-parse_unsafe-clause-parses g c =
-    let e = c.in_err-parse_unsafe.field-0.0 in (
-      passed_on _ _ _ _ e c.from_residual.ensures c.in_err-parse_unsafe.ensures.parses.0 (λ h. stopped _ e h),
-      c.parse_unsafe.ensures.parses.1,
-    )
+returns-in_err-parse_unsafe g c =
+    let e = c.in_err-parse_unsafe.field-0.0 in
+    record {
+      parses = (
+        passed_on _ _ _ _ e c.from_residual.ensures c.in_err-parse_unsafe.ensures.parses.0 (λ h. stopped _ e h),
+        c.parse_unsafe.ensures.parses.1,
+      );
+    }
 
-pub returns-in_err-parse_unsafe-clause-fewer : goal.returns-in_err-parse_unsafe-clause-fewer
-returns-in_err-parse_unsafe-clause-fewer g c = ahead_follows _ _ c.parse_unsafe.ensures.parses.1
-
-pub returns-in_err-parse_angled_lifetimes-clause-parses : goal.returns-in_err-parse_angled_lifetimes-clause-parses
+pub returns-in_err-parse_angled_lifetimes : goal.returns-in_err-parse_angled_lifetimes
 unfolding unsafe_binder
-returns-in_err-parse_angled_lifetimes-clause-parses g c =
-    let e = c.in_err-parse_angled_lifetimes.field-0.0 in (
-      passed_on _ _ _ _ e c.from_residual-in_err-parse_angled_lifetimes.ensures c.in_err-parse_angled_lifetimes.ensures.parses.0 (λ h. link _ c.in_ok-parse_unsafe.ensures.parses.0 (stopped _ e h)),
-      follows_trans _ _ _ c.parse_unsafe.ensures.parses.1 c.parse_angled_lifetimes.ensures.parses.1,
-    )
-
-pub returns-in_err-parse_angled_lifetimes-clause-fewer : goal.returns-in_err-parse_angled_lifetimes-clause-fewer
-returns-in_err-parse_angled_lifetimes-clause-fewer g c = ahead_follows _ _ (follows_trans _ _ _ c.parse_unsafe.ensures.parses.1 c.parse_angled_lifetimes.ensures.parses.1)
+returns-in_err-parse_angled_lifetimes g c =
+    let e = c.in_err-parse_angled_lifetimes.field-0.0 in
+    record {
+      parses = (
+        passed_on _ _ _ _ e c.from_residual-in_err-parse_angled_lifetimes.ensures c.in_err-parse_angled_lifetimes.ensures.parses.0 (λ h. link _ c.in_ok-parse_unsafe.ensures.parses.0 (stopped _ e h)),
+        follows_trans _ _ _ c.parse_unsafe.ensures.parses.1 c.parse_angled_lifetimes.ensures.parses.1,
+      );
+    }
 
 pub boxed-requires-clause-few : goal.boxed-requires-clause-few
 boxed-requires-clause-few g c =
@@ -42,40 +42,40 @@ boxed-requires-clause-few g c =
     let at = ap length c.types.ensures.begin in
     omega (arith, few, less, le, at)
 
-pub returns-in_err-boxed-clause-parses : goal.returns-in_err-boxed-clause-parses
+pub returns-in_err-boxed : goal.returns-in_err-boxed
 unfolding unsafe_binder
-returns-in_err-boxed-clause-parses g c =
+returns-in_err-boxed g c =
     let at = ap (λ b. knot.reads_below g.A.Attributes.reads g.E.Value.reads (length b) (a_type c.last_place.result) c.parse_angled_lifetimes.new.input) c.types.ensures.begin in
     let is = ap (λ p. knot.reads_below g.A.Attributes.reads g.E.Value.reads (length c.args.self.now.begin) (a_type p) c.parse_angled_lifetimes.new.input) c.last_place.ensures in
-    let e = c.in_err-boxed.field-0.0 in (
-      passed_on _ _ _ _ e c.from_residual-in_err-boxed.ensures c.in_err-boxed.ensures.parses.0 (λ h. link _ c.in_ok-parse_unsafe.ensures.parses.0 (link _ c.in_ok-parse_angled_lifetimes.ensures.parses.0 (stopped _ e (sym is ∙ sym at ∙ h)))),
-      follows_trans _ _ _ c.parse_unsafe.ensures.parses.1 (follows_trans _ _ _ c.parse_angled_lifetimes.ensures.parses.1 c.boxed.ensures.parses.1),
-    )
+    let e = c.in_err-boxed.field-0.0 in
+    record {
+      parses = (
+        passed_on _ _ _ _ e c.from_residual-in_err-boxed.ensures c.in_err-boxed.ensures.parses.0 (λ h. link _ c.in_ok-parse_unsafe.ensures.parses.0 (link _ c.in_ok-parse_angled_lifetimes.ensures.parses.0 (stopped _ e (sym is ∙ sym at ∙ h)))),
+        follows_trans _ _ _ c.parse_unsafe.ensures.parses.1 (follows_trans _ _ _ c.parse_angled_lifetimes.ensures.parses.1 c.boxed.ensures.parses.1),
+      );
+    }
 
-pub returns-in_err-boxed-clause-fewer : goal.returns-in_err-boxed-clause-fewer
-returns-in_err-boxed-clause-fewer g c = ahead_follows _ _ (follows_trans _ _ _ c.parse_unsafe.ensures.parses.1 (follows_trans _ _ _ c.parse_angled_lifetimes.ensures.parses.1 c.boxed.ensures.parses.1))
-
-pub returns-in_err-since-clause-parses : goal.returns-in_err-since-clause-parses
+pub returns-in_err-since : goal.returns-in_err-since
 unfolding unsafe_binder
-returns-in_err-since-clause-parses g c =
+returns-in_err-since g c =
     let at = ap (λ b. knot.reads_below g.A.Attributes.reads g.E.Value.reads (length b) (a_type c.last_place.result) c.parse_angled_lifetimes.new.input) c.types.ensures.begin in
     let is = ap (λ p. knot.reads_below g.A.Attributes.reads g.E.Value.reads (length c.args.self.now.begin) (a_type p) c.parse_angled_lifetimes.new.input) c.last_place.ensures in
-    let e = c.in_err-since.field-0.0 in (
-      passed_on _ _ _ _ e c.from_residual-in_err-since.ensures c.in_err-since.ensures.reads (λ h. link _ c.in_ok-parse_unsafe.ensures.parses.0 (link _ c.in_ok-parse_angled_lifetimes.ensures.parses.0 (link _ (sym is ∙ sym at ∙ c.in_ok-boxed.ensures.parses.0) (stopped _ e h)))),
-      follows_trans _ _ _ c.parse_unsafe.ensures.parses.1 (follows_trans _ _ _ c.parse_angled_lifetimes.ensures.parses.1 c.boxed.ensures.parses.1),
-    )
+    let e = c.in_err-since.field-0.0 in
+    record {
+      parses = (
+        passed_on _ _ _ _ e c.from_residual-in_err-since.ensures c.in_err-since.ensures.reads (λ h. link _ c.in_ok-parse_unsafe.ensures.parses.0 (link _ c.in_ok-parse_angled_lifetimes.ensures.parses.0 (link _ (sym is ∙ sym at ∙ c.in_ok-boxed.ensures.parses.0) (stopped _ e h)))),
+        follows_trans _ _ _ c.parse_unsafe.ensures.parses.1 (follows_trans _ _ _ c.parse_angled_lifetimes.ensures.parses.1 c.boxed.ensures.parses.1),
+      );
+    }
 
-pub returns-in_err-since-clause-fewer : goal.returns-in_err-since-clause-fewer
-returns-in_err-since-clause-fewer g c = ahead_follows _ _ (follows_trans _ _ _ c.parse_unsafe.ensures.parses.1 (follows_trans _ _ _ c.parse_angled_lifetimes.ensures.parses.1 c.boxed.ensures.parses.1))
-
-pub returns-clause-parses : goal.returns-clause-parses
+pub returns : goal.returns
 unfolding unsafe_binder
-returns-clause-parses g c =
+returns g c =
     let at = ap (λ b. knot.reads_below g.A.Attributes.reads g.E.Value.reads (length b) (a_type c.last_place.result) c.parse_angled_lifetimes.new.input) c.types.ensures.begin in
-    let is = ap (λ p. knot.reads_below g.A.Attributes.reads g.E.Value.reads (length c.args.self.now.begin) (a_type p) c.parse_angled_lifetimes.new.input) c.last_place.ensures in (
-      told_by _ _ (link _ c.in_ok-parse_unsafe.ensures.parses.0 (link _ c.in_ok-parse_angled_lifetimes.ensures.parses.0 (link _ (sym is ∙ sym at ∙ c.in_ok-boxed.ensures.parses.0) (link _ c.in_ok-since.ensures.reads refl)))) c.boxed_type.ensures.reads,
-      follows_trans _ _ _ c.parse_unsafe.ensures.parses.1 (follows_trans _ _ _ c.parse_angled_lifetimes.ensures.parses.1 c.boxed.ensures.parses.1),
-    )
-
-pub returns-clause-fewer : goal.returns-clause-fewer
-returns-clause-fewer g c = ahead_follows _ _ (follows_trans _ _ _ c.parse_unsafe.ensures.parses.1 (follows_trans _ _ _ c.parse_angled_lifetimes.ensures.parses.1 c.boxed.ensures.parses.1))
+    let is = ap (λ p. knot.reads_below g.A.Attributes.reads g.E.Value.reads (length c.args.self.now.begin) (a_type p) c.parse_angled_lifetimes.new.input) c.last_place.ensures in
+    record {
+      parses = (
+        told_by _ _ (link _ c.in_ok-parse_unsafe.ensures.parses.0 (link _ c.in_ok-parse_angled_lifetimes.ensures.parses.0 (link _ (sym is ∙ sym at ∙ c.in_ok-boxed.ensures.parses.0) (link _ c.in_ok-since.ensures.reads refl)))) c.boxed_type.ensures.reads,
+        follows_trans _ _ _ c.parse_unsafe.ensures.parses.1 (follows_trans _ _ _ c.parse_angled_lifetimes.ensures.parses.1 c.boxed.ensures.parses.1),
+      );
+    }
