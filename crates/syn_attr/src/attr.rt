@@ -14,17 +14,28 @@ ghost use Rattle.syn_attr.specs.meta.Spelling as properties;
 ghost use Rattle.syn_attr.specs.meta.Turns as turns;
 ghost use Rattle.std.specs.Iterator.{YieldsFirstRef, item_count};
 ghost use Rattle.syn_attr.specs.attr.Kinds.{outer_of, inner_of};
+ghost use Rattle.syn_attr.specs.attr.Lengths.{bare_laws};
+ghost use Rattle.syn_attr.specs.attr.Normal.{attributes};
+ghost use Rattle.syn_attr.specs.attr.Consts.{outer};
+ghost use Rattle.syn_attr.specs.attr.OuterMeet.{attributes_meet};
+ghost use Rattle.syn_attr.specs.attr.Reading as reading;
+ghost use Rattle.syn_attr.specs.attr.Spelling.{AreAll, IsOuter};
+ghost use Rattle.syn_attr.specs.attr.Told.{attributes_told};
 ghost use Rattle.syn_attr.specs.attr.Printing as printing;
 ghost use Rattle.syn_attr.specs.attr.Requirements as requirements;
 
+use crate::attr::print::print_outer;
 use crate::expr::Expr;
 use crate::meta::{ParseNestedMeta, read_properties};
-use std::alloc::Global;
+use std::alloc::{AllocError, Global};
 use std::marker::Model;
 use syn_path::mac::MacroDelimiter;
 use syn_path::path::{ModPath, mark_span, text_around};
+use syn_path::supplied::{Attributes, Subtree};
 use token_core::token::{Bracket, Eq, Not, Pound};
-use token_core::{ByParse, Error, ErrorKind, Parse, Parser, TokenStream, read_scoped};
+use token_core::{
+    ByParse, Error, ErrorKind, Items, Parse, ParseStream, Parser, TokenStream, read_scoped,
+};
 
 /// An attribute: `#[..]`, or `#![..]`, over its content.
 #[derive(Drop)]
@@ -37,6 +48,37 @@ pub struct AttributeOf<M> {
 
 /// An attribute.
 pub type Attribute<X> = AttributeOf<Meta<X>>;
+
+impl<X: Subtree> Attributes for Attribute<X> {
+    ghost shown = { outer X.prints };
+
+    ghost normal = { attributes X.normal };
+
+    ghost reads = { reading.outer X.reads };
+
+    ghost spells = { λ clear. AreAll (IsOuter X.spells clear) };
+
+    ghost bare = { bare_laws X.normal X.prints };
+
+    ghost told = { attributes_told X.reads X.spells X.sound };
+
+    ghost met = { attributes_meet X.reads X.spells X.normal X.prints X.complete X.reprint X.apart };
+
+    fn read_outer(
+        alloc: Global,
+        input: &mut ParseStream<'_>,
+    ) -> Result<Items<Attribute<X>>, Error> {
+        Attribute::parse_outer(alloc, input)
+    }
+
+    fn print_outer(
+        alloc: Global,
+        attrs: &Items<Attribute<X>>,
+        out: &mut TokenStream,
+    ) -> Result<(), AllocError> {
+        print_outer(alloc, attrs, out)
+    }
+}
 
 /// Whether an attribute stands before what it describes, or inside of it, with a `!`.
 #[derive(Clone, Copy)]

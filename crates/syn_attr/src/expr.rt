@@ -3,56 +3,22 @@
 pub mod print;
 pub mod read;
 
-ghost use Rattle.syn_attr.specs.attr.Lengths.{lens, spells_len, length_laws, bare_laws};
-ghost use Rattle.syn_attr.specs.attr.Normal.{attributes};
-ghost use Rattle.syn_attr.specs.attr.Consts.{normal_values_of, values_of, outer};
+ghost use Rattle.syn_attr.specs.attr.Lengths.{lens, spells_len, length_laws};
+ghost use Rattle.syn_attr.specs.attr.Consts.{normal_values_of, values_of};
 ghost use Rattle.syn_attr.specs.attr.ConstsMeet.{consts_meet};
-ghost use Rattle.syn_attr.specs.attr.OuterMeet.{attributes_meet};
 ghost use Rattle.syn_attr.specs.attr.Reading as reading;
-ghost use Rattle.syn_attr.specs.attr.Spelling.{AreAll, IsOuter, IsConst, IsConstDefault};
-ghost use Rattle.syn_attr.specs.attr.Told.{attributes_told, consts_told};
+ghost use Rattle.syn_attr.specs.attr.Spelling.{IsConst, IsConstDefault};
+ghost use Rattle.syn_attr.specs.attr.Told.{consts_told};
 
 use crate::attr::Attribute;
-use crate::attr::print::print_outer;
 use crate::expr::print::{print_const_argument, print_len};
 use crate::expr::read::parse_const_argument;
 use std::alloc::{AllocError, Global};
 use syn_path::mac::Macro;
 use syn_path::path::ModPath;
-use syn_path::supplied::{Attributes, Place, Subtree, Value};
+use syn_path::supplied::{Place, Subtree, Value};
 use token_core::token::{Brace, Const};
 use token_core::{Boxed, Error, Items, Lit, ParseStream, RangeLimits, TokenStream};
-
-impl<X: Subtree> Attributes for Attribute<X> {
-    ghost shown = { outer X.prints };
-
-    ghost normal = { attributes X.normal };
-
-    ghost reads = { reading.outer X.reads };
-
-    ghost spells = { λ clear. AreAll (IsOuter X.spells clear) };
-
-    ghost bare = { bare_laws X.normal X.prints };
-
-    ghost told = { attributes_told X.reads X.spells X.sound };
-
-    ghost met = { attributes_meet X.reads X.spells X.normal X.prints X.complete X.reprint X.apart };
-
-    fn read_outer(
-        alloc: Global,
-        input: &mut ParseStream<'_>,
-    ) -> Result<Items<Attribute<X>>, Error> {
-        Attribute::parse_outer(alloc, input)
-    }
-
-    fn print_outer(
-        alloc: Global,
-        attrs: &Items<Attribute<X>>,
-        out: &mut TokenStream,
-    ) -> Result<(), AllocError> {
-        print_outer(alloc, attrs, out)
-    }
-}
 
 impl<X: Subtree> Value for Expr<X> {
     ghost reads = { record { len = lens X.reads; const_argument = reading.const_argument X.reads } };

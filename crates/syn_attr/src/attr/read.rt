@@ -12,7 +12,7 @@ ghost use Rattle.syn_attr.specs.attr.Spelling.{AreAll, IsMetaList, IsOuter, IsIn
 use crate::attr::{AttrStyle, Attribute, AttributeOf, Meta, MetaList, MetaNameValue};
 use crate::expr::read::parse_value;
 use std::alloc::Global;
-use syn_path::mac::parse_body;
+use syn_path::mac::parse_delimiter;
 use syn_path::path::ModPath;
 use syn_path::supplied::Subtree;
 use token_core::token::{Brace, Bracket, Eq, EqEq, FatArrow, Not, Paren, Pound, Unsafe};
@@ -96,7 +96,7 @@ fn parse_list_after_path(
 ) -> Result<MetaList, Error>
     ensures parses { Parses (reading.list_after path) result input.old input.new }
 {
-    let (delimiter, tokens) = parse_body(alloc, input)?;
+    let (delimiter, tokens) = parse_delimiter(alloc, input)?;
     Ok(MetaList {
         path,
         delimiter,

@@ -23,7 +23,7 @@ returns-in_err-delimiter c =
     record {
       parses = (
         passed_on _ _ _ _ e c.from_residual-in_err-delimiter.ensures c.in_err-delimiter.ensures.parses.0 (λ h. link _ c.in_ok-bang_token.ensures.reads (stopped _ e h)),
-        follows_trans _ _ _ c.parse.ensures.within c.parse_body.ensures.parses.1,
+        follows_trans _ _ _ c.parse.ensures.within c.parse_delimiter.ensures.parses.1,
       );
     }
 
@@ -33,6 +33,6 @@ returns c =
     record {
       parses = (
         link _ c.in_ok-bang_token.ensures.reads (link _ c.in_ok-delimiter.ensures.parses.0 refl),
-        follows_trans _ _ _ c.parse.ensures.within c.parse_body.ensures.parses.1,
+        follows_trans _ _ _ c.parse.ensures.within c.parse_delimiter.ensures.parses.1,
       );
     }
