@@ -1,6 +1,6 @@
 -- What the readers ask of tokens in the place of an expression.
 use Rattle.syn_path.specs.Traits.{Subtree}
-use Rattle.syn_verbatim.specs.Aside as aside
+use Rattle.syn_verbatim.specs.laws.Aside as aside
 use Rattle.syn_verbatim.specs.Reading as reading
 use Rattle.syn_verbatim.specs.Spelling as spelling
 use Rattle.syn_verbatim.specs.declared.expr.VerbatimExpr.{VerbatimExpr}

@@ -14,13 +14,13 @@ ghost use Rattle.syn_attr.specs.meta.Spelling as properties;
 ghost use Rattle.syn_attr.specs.meta.Turns as turns;
 ghost use Rattle.std.specs.Iterator.{YieldsFirstRef, item_count};
 ghost use Rattle.syn_attr.specs.attr.Kinds.{outer_of, inner_of};
-ghost use Rattle.syn_attr.specs.attr.Lengths.{bare_laws};
+ghost use Rattle.syn_attr.specs.laws.Lengths.{bare_laws};
 ghost use Rattle.syn_attr.specs.attr.Normal.{attributes};
 ghost use Rattle.syn_attr.specs.attr.Consts.{outer};
-ghost use Rattle.syn_attr.specs.attr.OuterMeet.{attributes_meet};
+ghost use Rattle.syn_attr.specs.laws.OuterMeet.{attributes_meet};
 ghost use Rattle.syn_attr.specs.attr.Reading as reading;
 ghost use Rattle.syn_attr.specs.attr.Spelling.{AreAll, IsOuter};
-ghost use Rattle.syn_attr.specs.attr.Told.{attributes_told};
+ghost use Rattle.syn_attr.specs.laws.Told.{attributes_told};
 ghost use Rattle.syn_attr.specs.attr.Printing as printing;
 ghost use Rattle.syn_attr.specs.attr.Requirements as requirements;
 

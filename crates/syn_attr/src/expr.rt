@@ -3,12 +3,12 @@
 pub mod print;
 pub mod read;
 
-ghost use Rattle.syn_attr.specs.attr.Lengths.{lens, spells_len, length_laws};
+ghost use Rattle.syn_attr.specs.laws.Lengths.{lens, spells_len, length_laws};
 ghost use Rattle.syn_attr.specs.attr.Consts.{normal_values_of, values_of};
-ghost use Rattle.syn_attr.specs.attr.ConstsMeet.{consts_meet};
+ghost use Rattle.syn_attr.specs.laws.ConstsMeet.{consts_meet};
 ghost use Rattle.syn_attr.specs.attr.Reading as reading;
 ghost use Rattle.syn_attr.specs.attr.Spelling.{IsConst, IsConstDefault};
-ghost use Rattle.syn_attr.specs.attr.Told.{consts_told};
+ghost use Rattle.syn_attr.specs.laws.Told.{consts_told};
 
 use crate::attr::Attribute;
 use crate::expr::print::{print_const_argument, print_len};

@@ -8,7 +8,7 @@ ghost use Rattle.token_core.specs.Same.{Same};
 ghost use Rattle.token_core.specs.Trees.{toks};
 ghost use Rattle.syn_path.specs.aside.Lists.{AreSame, MovesSubtree};
 ghost use Rattle.syn_laws.specs.aside.Readers as readers;
-ghost use Rattle.syn_verbatim.specs.Aside as free;
+ghost use Rattle.syn_verbatim.specs.laws.Aside as free;
 ghost use Rattle.syn_verbatim.specs.Spelling as spelling;
 
 use syn_path::path::Arguments;

@@ -7,8 +7,8 @@ use Rattle.token_core.specs.Reads.{is_done}
 use Rattle.token_core.proofs.Turns as turns
 use Rattle.syn_sample.specs.sample.Parts.{Atoms, Semi}
 use Rattle.syn_sample.specs.sample.Reading.{atoms, statements}
-use Rattle.syn_sample.specs.sample.Joins.{joint_keeps}
-use Rattle.syn_sample.specs.sample.Reads.{atoms-takes}
+use Rattle.syn_sample.specs.laws.Joins.{joint_keeps}
+use Rattle.syn_sample.specs.laws.Reads.{atoms-takes}
 use Rattle.token_core.specs.Tokens as token
 
 module _ (v : Many Atoms Semi) (s : Stream) where

@@ -1,13 +1,5 @@
 pub mod Parts
 pub mod Reading
 pub mod Printing
-pub mod Prints
 pub mod Spelling
-pub mod Groups
-pub mod Steady
-pub mod Joins
-pub mod Reads
-pub mod Sums
-pub mod Laws
 pub mod Bare
-pub mod Aside

@@ -9,9 +9,9 @@ ghost use Rattle.syn_sample.specs.sample.Parts as spec;
 ghost use Rattle.syn_sample.specs.sample.Reading as reading;
 ghost use Rattle.syn_sample.specs.sample.Printing as printing;
 ghost use Rattle.syn_sample.specs.sample.Spelling as spelling;
-ghost use Rattle.syn_sample.specs.sample.Laws as laws;
+ghost use Rattle.syn_sample.specs.laws.Laws as laws;
 ghost use Rattle.syn_sample.specs.sample.Bare as bare;
-ghost use Rattle.syn_sample.specs.sample.Aside as aside;
+ghost use Rattle.syn_sample.specs.laws.Aside as aside;
 
 use std::alloc::{AllocError, Global};
 use syn_path::path::begins_mod_segment;
@@ -242,7 +242,7 @@ fn print_path(alloc: Global, path: &ModPath, out: &mut TokenStream) -> Result<()
 
 /// Appends atoms and their marks; refused, what stood before is kept.
 #[cycle(print)]
-#[tactic(auto, using(token_core::proofs::Puts::puts, crate::specs::sample::Prints::prints))]
+#[tactic(auto, using(token_core::proofs::Puts::puts, crate::specs::laws::Prints::prints))]
 fn print_atoms(alloc: Global, atoms: &Sum, out: &mut TokenStream) -> Result<(), AllocError>
     ensures ok { OnOk result (trees out.new ≡ trees out.old ++ printing.atoms atoms.now) }
     ensures err { OnErr result (Extends (trees out.old) (trees out.new)) }
@@ -256,7 +256,7 @@ fn print_atoms(alloc: Global, atoms: &Sum, out: &mut TokenStream) -> Result<(), 
 
 /// Appends an atom, a group with its content; refused, what stood before is kept.
 #[cycle(print)]
-#[tactic(auto, using(token_core::proofs::Puts::puts, crate::specs::sample::Prints::prints))]
+#[tactic(auto, using(token_core::proofs::Puts::puts, crate::specs::laws::Prints::prints))]
 fn print_atom(alloc: Global, atom: &Atom, out: &mut TokenStream) -> Result<(), AllocError>
     ensures ok { OnOk result (trees out.new ≡ trees out.old ++ printing.atom atom.now) }
     ensures err { OnErr result (Extends (trees out.old) (trees out.new)) }

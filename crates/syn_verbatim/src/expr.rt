@@ -6,8 +6,8 @@ ghost use Rattle.token_core.specs.Prints.{Extends};
 ghost use Rattle.token_core.specs.Reads.{Reads, Follows, peek};
 ghost use Rattle.token_core.specs.Trees.{trees};
 ghost use Rattle.syn_path.specs.Supplied.{lone_literal, attribute_ahead};
-ghost use Rattle.syn_verbatim.specs.Aside as aside;
-ghost use Rattle.syn_verbatim.specs.Laws as laws;
+ghost use Rattle.syn_verbatim.specs.laws.Aside as aside;
+ghost use Rattle.syn_verbatim.specs.laws.Laws as laws;
 ghost use Rattle.syn_verbatim.specs.Reading as reading;
 ghost use Rattle.syn_verbatim.specs.Spelling as spelling;
 

@@ -3,7 +3,7 @@ use Rattle.std.proofs.lemmas.Result.{on_ok_weaker, on_err_weaker}
 use Rattle.token_core.specs.Trees.{trees}
 use Rattle.token_core.proofs.Puts.{puts, extends_append, extends_on, err_on}
 use Rattle.syn_attr.specs.attr.Printing.{is_outer, if_outer, outer_by, meta, value}
-use Rattle.syn_attr.specs.attr.Prints.{prints_other, prints_literal, prints_expr_path, prints_const, prints_macro, prints_block}
+use Rattle.syn_attr.specs.laws.Prints.{prints_other, prints_literal, prints_expr_path, prints_const, prints_macro, prints_block}
 use Rattle.syn_attr.proofs.attr_laws.Prints.{put_attribute, put_outer, pass_inner, put_name_value, put_node, put_started, put_unstarted, put_end, err_kept}
 use Rattle.syn_attr.proofs.+print.Goals.{attr::print::print_outer-then-is_outer+in_ok-print_meta+in_ok-print_around, attr::print::print_outer-else-is_outer}
 use Rattle.syn_attr.proofs.+print.Goals as goal

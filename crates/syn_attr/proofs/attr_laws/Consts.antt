@@ -15,11 +15,11 @@ use Rattle.syn_attr.specs.declared.expr.Expr.{Expr, out-Expr, roll-Expr, roll-ou
 use Rattle.syn_attr.specs.declared.expr.Expr.TheVariants as e
 use Rattle.syn_attr.specs.declared.expr.ExprRange.{ExprRange}
 use Rattle.syn_attr.specs.attr.Attrs.{Attribute, expr_path_of}
-use Rattle.syn_attr.specs.attr.Alone.{const_alone, const_braced, alone-Lit, alone-Path, alone-Const, alone-Macro, alone-Range, alone-Block, alone-Other}
+use Rattle.syn_attr.specs.laws.Alone.{const_alone, const_braced, alone-Lit, alone-Path, alone-Const, alone-Macro, alone-Range, alone-Block, alone-Other}
 use Rattle.syn_attr.specs.attr.Normal as attr
 use Rattle.syn_attr.specs.attr.Printing.{value}
 use Rattle.syn_attr.proofs.attr_laws.Normal.{value_same, at_place_same}
-use Rattle.syn_attr.specs.attr.Prints.{normal-Lit, normal-Path as normal-ExprPath, normal-Const as normal-ExprConst, normal-Macro, normal-Range, normal-Block, normal_place}
+use Rattle.syn_attr.specs.laws.Prints.{normal-Lit, normal-Path as normal-ExprPath, normal-Const as normal-ExprConst, normal-Macro, normal-Range, normal-Block, normal_place}
 use Rattle.syn_attr.specs.attr.Consts.{is_word, stands_alone, const_argument, normal_const_argument}
 
 pub ruleset alone = (alone-Lit, alone-Path, alone-Const, alone-Macro, alone-Range, alone-Block, alone-Other)

@@ -2,7 +2,7 @@
 use Rattle.syn_path.specs.Traits.{Attributes, Expressions, Subtree}
 use Rattle.syn_attr.specs.attr.Attrs.{Attribute as Attr}
 use Rattle.syn_attr.specs.attr.Consts.{normal_values_of, outer, values_of}
-use Rattle.syn_attr.specs.attr.Lengths.{lens, spells_len}
+use Rattle.syn_attr.specs.laws.Lengths.{lens, spells_len}
 use Rattle.syn_attr.specs.attr.Normal as normal
 use Rattle.syn_attr.specs.attr.Reading as reading
 use Rattle.syn_attr.specs.attr.Spelling.{AreAll, IsOuter, IsConst, IsConstDefault}

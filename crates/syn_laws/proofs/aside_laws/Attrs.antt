@@ -30,7 +30,7 @@ use Rattle.syn_path.specs.mac.Spelling.{Delimits}
 use Rattle.syn_path.specs.path.Paths.{ModPath, nothing}
 use Rattle.syn_attr.specs.attr.Attrs.{Pound, Equals, Attribute, word_path, list_of, name_value_of, literal, attribute_of, block_of, expr_path_of, lit_of}
 use Rattle.syn_attr.specs.attr.Grammars as grammars
-use Rattle.syn_attr.specs.attr.Lengths.{spells_len}
+use Rattle.syn_attr.specs.laws.Lengths.{spells_len}
 use Rattle.syn_attr.specs.attr.Spelling.{AreAll, no_more, one_more, IsMetaPath, unsafe_path, mod_path, IsMetaList, a_meta_list, IsValue, a_literal, supplied, IsNameValue, a_name_value, IsMeta, a_path, a_list, a_value, IsOuter, an_outer, IsInner, an_inner, IsConst, a_lone_literal, a_block, IsConstDefault, a_const, a_word}
 use Rattle.syn_attr.proofs.attr_laws.Laws.{list_lawful}
 use Rattle.syn_path.specs.aside.Lists.{Asides, Moves, MovesSubtree}

@@ -15,10 +15,10 @@ use Rattle.syn_path.specs.Values.{SpelledValues}
 use Rattle.syn_path.specs.Whole.{AttributesMeet, ConstsMeet}
 use Rattle.syn_attr.specs.attr.Attrs.{Attribute as Attr}
 use Rattle.syn_attr.specs.attr.Consts.{outer}
-use Rattle.syn_attr.specs.attr.ConstsMeet.{consts_meet}
-use Rattle.syn_attr.specs.attr.Lengths.{bare_laws, length_laws}
-use Rattle.syn_attr.specs.attr.OuterMeet.{attributes_meet}
-use Rattle.syn_attr.specs.attr.Told.{attributes_told, consts_told}
+use Rattle.syn_attr.specs.laws.ConstsMeet.{consts_meet}
+use Rattle.syn_attr.specs.laws.Lengths.{bare_laws, length_laws}
+use Rattle.syn_attr.specs.laws.OuterMeet.{attributes_meet}
+use Rattle.syn_attr.specs.laws.Told.{attributes_told, consts_told}
 use Rattle.syn_attr.specs.attr.Traits as given_by_subtree
 use Rattle.syn_attr.specs.declared.expr.Expr.{Expr}
 use Rattle.syn_attr.proofs.attr_laws.Laws.{inner_lawful, meta_lawful, name_value_lawful, outer_lawful}

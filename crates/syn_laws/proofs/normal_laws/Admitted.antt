@@ -16,8 +16,8 @@ use Rattle.syn_attr.specs.attr.Attrs.{Attribute}
 use Rattle.syn_attr.specs.attr.Grammars as grammars
 use Rattle.syn_attr.specs.attr.Normal as normal
 use Rattle.syn_attr.specs.attr.Printing as printing
-use Rattle.syn_attr.specs.attr.Prints.{normal_literal, normal_other, prints_other}
-use Rattle.syn_attr.specs.attr.Reprint.{supplied_stays}
+use Rattle.syn_attr.specs.laws.Prints.{normal_literal, normal_other, prints_other}
+use Rattle.syn_attr.specs.laws.Reprint.{supplied_stays}
 use Rattle.syn_attr.specs.attr.Spelling.{IsValue, a_literal, supplied}
 use Rattle.syn_attr.proofs.attr_laws.Laws.{inner_lawful, meta_lawful, outer_lawful}
 use Rattle.syn_forms.specs.declared.places.TypePlace.{TypePlace}

@@ -10,9 +10,9 @@ use Rattle.syn_path.specs.declared.supplied.Place.TheVariants.{Value}
 use Rattle.syn_path.specs.Lengths.{LengthLaws}
 use Rattle.syn_path.specs.Supplied.{IsApart}
 use Rattle.syn_path.specs.Whole.{AttributesMeet, ConstsMeet}
-use Rattle.syn_attr.specs.attr.Lengths.{length_laws}
-use Rattle.syn_attr.specs.attr.ConstsMeet.{consts_meet}
-use Rattle.syn_attr.specs.attr.OuterMeet.{attributes_meet}
+use Rattle.syn_attr.specs.laws.Lengths.{length_laws}
+use Rattle.syn_attr.specs.laws.ConstsMeet.{consts_meet}
+use Rattle.syn_attr.specs.laws.OuterMeet.{attributes_meet}
 use Rattle.syn_ty.proofs.ty_laws.GivenWhole.{given_again, given_meets}
 use Rattle.syn_ty.proofs.ty_laws.reprint.Knot.{GivenAgain}
 use Rattle.syn_ty.proofs.ty_laws.complete.Knot.{GivenMeets}

@@ -1,7 +1,7 @@
 -- The reads of patterns, over the reads of the patterns that they hold.
 use Rattle.std.specs.Prelude.{ℕ, zero, suc, Bool, not, ◌&&◌, ◌||◌, if◌then◌else◌, List, [], ◌∷◌, get_or, Option, Some, None, is_some, Err}
 use Rattle.syn_attr.specs.attr.Attrs.{Attribute as Attr, const_of, expr_macro_of, lit_of}
-use Rattle.syn_attr.specs.attr.Lengths.{lens}
+use Rattle.syn_attr.specs.laws.Lengths.{lens}
 use Rattle.syn_attr.specs.attr.Reading.{const_argument, outer}
 use Rattle.syn_attr.specs.declared.expr.Expr.{Expr}
 use Rattle.syn_attr.specs.declared.expr.ExprConstOf.{ExprConstOf}

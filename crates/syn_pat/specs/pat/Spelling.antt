@@ -17,7 +17,7 @@ use Rattle.syn_path.specs.declared.supplied.Place.{Place}
 use Rattle.syn_path.specs.declared.supplied.Place.TheVariants.{Block}
 use Rattle.syn_path.specs.path.Paths.{lone_ident}
 use Rattle.syn_attr.specs.attr.Attrs.{Attribute as Attr, const_of, lit_of}
-use Rattle.syn_attr.specs.attr.Lengths.{spells_len}
+use Rattle.syn_attr.specs.laws.Lengths.{spells_len}
 use Rattle.syn_attr.specs.attr.Spelling.{AreAll, IsOuter, IsConst, IsConstDefault}
 use Rattle.syn_attr.specs.declared.expr.Expr.{Expr}
 use Rattle.syn_attr.specs.declared.expr.ExprConstOf.{ExprConstOf}

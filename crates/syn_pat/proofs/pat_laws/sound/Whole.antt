@@ -8,8 +8,8 @@ use Rattle.syn_pat.proofs.pat_laws.words.Types.{loosely}
 use Rattle.syn_pat.proofs.pat_laws.words.Patterns.{PatPlace, values, type_names, outer_spelt, values_spelt, SpellsGuarded, SpellsPat, SpellsPatType}
 use Rattle.token_core.proofs.Turns.{same_pair}
 use Rattle.syn_path.specs.declared.path.PathStyle.TheVariants.{Expr as expressions}
-use Rattle.syn_attr.specs.attr.Lengths.{length_laws}
-use Rattle.syn_attr.specs.attr.Told.{attributes_told, consts_told}
+use Rattle.syn_attr.specs.laws.Lengths.{length_laws}
+use Rattle.syn_attr.specs.laws.Told.{attributes_told, consts_told}
 use Rattle.syn_forms.proofs.tokens_laws.Fronts.{nothing_left}
 use Rattle.syn_ty.proofs.ty_laws.sound.Alone.{maybe_qualified_took, ty_took}
 use Rattle.syn_ty.proofs.ty_laws.sound.AlongAlone.{lone_maybe_qualified}

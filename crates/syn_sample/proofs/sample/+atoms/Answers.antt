@@ -10,9 +10,9 @@ use Rattle.token_core.proofs.Turns.{turn_refused, turn_last, turn_stuck, turn_on
 use Rattle.syn_path.proofs.path_laws.Turns.{refused_by, stuck_by}
 use Rattle.syn_sample.specs.sample.Reading.{joined_by, atom}
 use Rattle.syn_sample.specs.sample.Parts.{groups}
-use Rattle.syn_sample.specs.sample.Groups.{groups_suffix, paren_fewer}
-use Rattle.syn_sample.specs.sample.Joins.{joint_keeps}
-use Rattle.syn_sample.specs.sample.Reads.{atom-takes, atoms-joined}
+use Rattle.syn_sample.specs.laws.Groups.{groups_suffix, paren_fewer}
+use Rattle.syn_sample.specs.laws.Joins.{joint_keeps}
+use Rattle.syn_sample.specs.laws.Reads.{atom-takes, atoms-joined}
 use Rattle.syn_sample.proofs.sample.+atoms.Goals as goal
 
 pub read_atoms-returns-in_err-atom-clause-reads : goal.read_atoms-returns-in_err-atom-clause-reads

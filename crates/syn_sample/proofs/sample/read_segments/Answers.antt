@@ -7,8 +7,8 @@ use Rattle.token_core.proofs.Suffixes.{follows}
 use Rattle.token_core.proofs.Turns.{turn_refused, turn_last, turn_stuck, turn_on}
 use Rattle.syn_path.proofs.path_laws.Turns.{refused_by, stuck_by}
 use Rattle.syn_sample.specs.sample.Reading.{joined_by, segment}
-use Rattle.syn_sample.specs.sample.Joins.{joint_keeps}
-use Rattle.syn_sample.specs.sample.Reads.{segment-takes}
+use Rattle.syn_sample.specs.laws.Joins.{joint_keeps}
+use Rattle.syn_sample.specs.laws.Reads.{segment-takes}
 use Rattle.syn_sample.proofs.sample.read_segments.Goals as goal
 
 pub returns-in_err-segment-clause-reads : goal.returns-in_err-segment-clause-reads

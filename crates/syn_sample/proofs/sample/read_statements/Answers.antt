@@ -5,8 +5,8 @@ use Rattle.token_core.specs.Loops.{size, after}
 use Rattle.token_core.proofs.Suffixes.{follows}
 use Rattle.syn_path.proofs.path_laws.Turns.{refused_by, stuck_by}
 use Rattle.syn_sample.specs.sample.Reading.{statements}
-use Rattle.syn_sample.specs.sample.Joins.{joint_keeps}
-use Rattle.syn_sample.specs.sample.Reads.{atoms-takes}
+use Rattle.syn_sample.specs.laws.Joins.{joint_keeps}
+use Rattle.syn_sample.specs.laws.Reads.{atoms-takes}
 use Rattle.syn_sample.proofs.Statements.{turn_none, turn_refused, turn_last, turn_stuck, turn_on}
 use Rattle.syn_sample.proofs.sample.read_statements.Goals as goal
 use Rattle.token_core.specs.Tokens as token

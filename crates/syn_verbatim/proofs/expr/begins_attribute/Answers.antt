@@ -2,7 +2,7 @@ use Rattle.std.specs.Prelude.{◌&&◌}
 use Rattle.std.proofs.Common.{ap, sym, ◌∙◌}
 use Rattle.token_core.specs.declared.tree.Delimiter.TheVariants.{Bracket}
 use Rattle.token_core.specs.Reads.{second, sees_group}
-use Rattle.syn_verbatim.specs.Likes.{begins-attribute}
+use Rattle.syn_verbatim.specs.laws.Likes.{begins-attribute}
 use Rattle.syn_verbatim.proofs.expr.begins_attribute.Goals as goal
 
 pub returns-then-peek : goal.returns-then-peek

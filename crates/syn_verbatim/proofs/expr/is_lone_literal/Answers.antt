@@ -4,7 +4,7 @@ use Rattle.token_core.specs.Lits.{sees_lit, read_lit}
 use Rattle.token_core.specs.Front.{front}
 use Rattle.syn_path.specs.Supplied.{lone_literal}
 use Rattle.syn_path.proofs.path_laws.Turns.{stuck_by}
-use Rattle.syn_verbatim.specs.Likes.{alone-none, alone-read, reads-seen}
+use Rattle.syn_verbatim.specs.laws.Likes.{alone-none, alone-read, reads-seen}
 use Rattle.syn_verbatim.proofs.expr.is_lone_literal.Goals as goal
 
 pub returns-then-not-peek : goal.returns-then-not-peek

@@ -24,8 +24,8 @@ use Rattle.syn_attr.specs.attr.Normal as normal
 use Rattle.syn_attr.specs.attr.Printing.{attribute, attributes}
 use Rattle.syn_attr.specs.attr.Reading.{one_outer, outer, sees_pound}
 use Rattle.syn_attr.specs.attr.Spelling.{AreAll, no_more, one_more, IsOuter, an_outer}
-use Rattle.syn_attr.specs.attr.Complete.{many_complete, one_outer_complete, outer_seen, outer_size}
-use Rattle.syn_attr.specs.attr.Reprint.{attributes_again, outer_again}
+use Rattle.syn_attr.specs.laws.Complete.{many_complete, one_outer_complete, outer_seen, outer_size}
+use Rattle.syn_attr.specs.laws.Reprint.{attributes_again, outer_again}
 
 module _ {X : Type 0} (spells : Place → X → Toks → Type 0) where
   -- ---- fewer tokens are left after them

@@ -23,7 +23,7 @@ use Rattle.syn_attr.specs.attr.Reading.{block, const_argument, content, many, ma
 use Rattle.syn_attr.specs.attr.Spelling.{AreAll, IsConst, a_lone_literal, a_block, IsConstDefault, a_const, a_word, IsOuter}
 use Rattle.syn_attr.specs.declared.expr.Expr.{Expr}
 use Rattle.syn_attr.specs.declared.expr.Expr.TheVariants as e
-use Rattle.syn_attr.specs.attr.Sound.{many_sound, one_outer_sound}
+use Rattle.syn_attr.specs.laws.Sound.{many_sound, one_outer_sound}
 use Rattle.token_core.specs.Tokens as token
 
 -- ---- values one after the other

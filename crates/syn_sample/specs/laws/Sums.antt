@@ -43,12 +43,12 @@ use Rattle.syn_sample.specs.declared.sample.ModPath.{ModPath}
 use Rattle.syn_sample.specs.sample.Parts.{Sep, Plus, Semi, Atoms, path_of, group_of, groups}
 use Rattle.syn_sample.specs.sample.Reading.{joined_by, sees_sep, segment, leading, path, group_by, atom_by, atoms_at, atoms, statements}
 use Rattle.syn_sample.specs.sample.Printing as printing
-use Rattle.syn_sample.specs.sample.Prints.{prints_lit, prints_path, prints_group}
+use Rattle.syn_sample.specs.laws.Prints.{prints_lit, prints_path, prints_group}
 use Rattle.syn_sample.specs.sample.Spelling.{AreJoined, IsSegment, a_segment, IsPath, a_path, a_global_path, IsAtom, an_atom_lit, an_atom_path, an_atom_group, AreAtoms, AreSummed, AreStatements}
-use Rattle.syn_sample.specs.sample.Groups.{took_inside, first-none, reads_inside}
-use Rattle.syn_sample.specs.sample.Steady as st
-use Rattle.syn_sample.specs.sample.Joins.{mark_weaker, joined_sound, joined_visible, joined_seen, joined_weaker, joined_complete, joined_size, joined_whole, joined_again}
-use Rattle.syn_sample.specs.sample.Reads.{sees_plus, path_steady, any_count}
+use Rattle.syn_sample.specs.laws.Groups.{took_inside, first-none, reads_inside}
+use Rattle.syn_sample.specs.laws.Steady as st
+use Rattle.syn_sample.specs.laws.Joins.{mark_weaker, joined_sound, joined_visible, joined_seen, joined_weaker, joined_complete, joined_size, joined_whole, joined_again}
+use Rattle.syn_sample.specs.laws.Reads.{sees_plus, path_steady, any_count}
 use Rattle.token_core.specs.Tokens as token
 
 -- ---- the same tokens at the front

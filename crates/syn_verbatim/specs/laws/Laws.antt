@@ -15,8 +15,8 @@ use Rattle.syn_verbatim.specs.declared.expr.VerbatimExpr.{VerbatimExpr}
 use Rattle.syn_verbatim.specs.Held.{held, after, ended}
 use Rattle.syn_verbatim.specs.Spelling.{verbatim_of, fits, spells, print}
 use Rattle.syn_verbatim.specs.Reading.{rest, verbatim, at_place, expr_name}
-use Rattle.syn_verbatim.specs.Likes.{done_like, literal_like, attribute_like}
-use Rattle.syn_verbatim.specs.Again.{held-toks, held-like, held-visible}
+use Rattle.syn_verbatim.specs.laws.Likes.{done_like, literal_like, attribute_like}
+use Rattle.syn_verbatim.specs.laws.Again.{held-toks, held-like, held-visible}
 
 -- ---- steady
 

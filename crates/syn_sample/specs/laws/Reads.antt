@@ -29,9 +29,9 @@ use Rattle.syn_sample.specs.declared.sample.Atom.TheVariants as a
 use Rattle.syn_sample.specs.declared.sample.ModPath.{ModPath}
 use Rattle.syn_sample.specs.sample.Parts.{Sep, Plus, Atoms, path_of, group_of, groups}
 use Rattle.syn_sample.specs.sample.Reading.{joined_by, sees_sep, segment, leading, path, group_by, atom_by, atoms_at, atoms, grouped, atom}
-use Rattle.syn_sample.specs.sample.Groups.{inside_takes, inside_same}
-use Rattle.syn_sample.specs.sample.Steady as st
-use Rattle.syn_sample.specs.sample.Joins.{joint_keeps}
+use Rattle.syn_sample.specs.laws.Groups.{inside_takes, inside_same}
+use Rattle.syn_sample.specs.laws.Steady as st
+use Rattle.syn_sample.specs.laws.Joins.{joint_keeps}
 pub use Rattle.token_core.specs.Tokens.{sees_plus}
 use Rattle.token_core.specs.Tokens as token
 

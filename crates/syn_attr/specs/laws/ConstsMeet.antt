@@ -42,10 +42,10 @@ use Rattle.syn_attr.specs.attr.Consts as consts
 use Rattle.syn_attr.specs.attr.Normal as normal
 use Rattle.syn_attr.specs.attr.Reading.{block, const_argument}
 use Rattle.syn_attr.specs.attr.Spelling.{IsConst, a_lone_literal, a_block, IsConstDefault, a_const, a_word}
-use Rattle.syn_attr.specs.attr.Alone.{alone-Block, alone-Lit, alone-Path, const_alone}
-use Rattle.syn_attr.specs.attr.Groups.{first-none}
-use Rattle.syn_attr.specs.attr.Prints.{normal-Block, normal-Path, normal_literal, prints_block, prints_expr_path, prints_literal}
-use Rattle.syn_attr.specs.attr.Reprint.{supplied_stays}
+use Rattle.syn_attr.specs.laws.Alone.{alone-Block, alone-Lit, alone-Path, const_alone}
+use Rattle.syn_attr.specs.laws.Groups.{first-none}
+use Rattle.syn_attr.specs.laws.Prints.{normal-Block, normal-Path, normal_literal, prints_block, prints_expr_path, prints_literal}
+use Rattle.syn_attr.specs.laws.Reprint.{supplied_stays}
 
 -- ---- what stands at the front
 

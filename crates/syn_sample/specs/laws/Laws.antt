@@ -34,11 +34,11 @@ use Rattle.syn_sample.specs.sample.Parts.{Plus, Semi, Atoms, is_lit, lit-is_lit,
 use Rattle.syn_sample.specs.sample.Reading.{atoms, sum, value, statements, block, at_place}
 use Rattle.syn_sample.specs.sample.Printing as printing
 use Rattle.syn_sample.specs.sample.Spelling.{seen_delimiter, shown, IsPath, a_path, a_global_path, IsAtom, an_atom_lit, an_atom_path, an_atom_group, AreAtoms, AreSummed, AreStatements, IsSum, IsValue, IsBlock, IsAt, spells}
-use Rattle.syn_sample.specs.sample.Groups.{first-none}
-use Rattle.syn_sample.specs.sample.Steady as st
-use Rattle.syn_sample.specs.sample.Joins.{joint_keeps, listed_whole, printed_again}
-use Rattle.syn_sample.specs.sample.Sums.{Equal, fronts_equal, Content, sep_first, plus_first, segments_first, other_word, true_no_word, false_no_word, no_joint-done, summed_seen, summed_sound, summed_complete, summed_again, summed_whole, done_over, statements_seen, statements_sound, statements_complete, true_false}
-use Rattle.syn_sample.specs.sample.Reads.{Any, atoms_steady, atoms-takes}
+use Rattle.syn_sample.specs.laws.Groups.{first-none}
+use Rattle.syn_sample.specs.laws.Steady as st
+use Rattle.syn_sample.specs.laws.Joins.{joint_keeps, listed_whole, printed_again}
+use Rattle.syn_sample.specs.laws.Sums.{Equal, fronts_equal, Content, sep_first, plus_first, segments_first, other_word, true_no_word, false_no_word, no_joint-done, summed_seen, summed_sound, summed_complete, summed_again, summed_whole, done_over, statements_seen, statements_sound, statements_complete, true_false}
+use Rattle.syn_sample.specs.laws.Reads.{Any, atoms_steady, atoms-takes}
 use Rattle.token_core.specs.Tokens as token
 
 -- ---- the tokens as they stand in invisible groups

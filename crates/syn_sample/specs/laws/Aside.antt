@@ -32,7 +32,7 @@ use Rattle.syn_sample.specs.declared.sample.ModPath.{ModPath}
 use Rattle.syn_sample.specs.sample.Bare as free
 use Rattle.syn_sample.specs.sample.Parts.{Atoms, Semi, path_of, group_of, is_lit, lone, lit-is_lit, path-is_lit, group-is_lit}
 use Rattle.syn_sample.specs.sample.Printing as printing
-use Rattle.syn_sample.specs.sample.Prints.{prints_lit, prints_path, prints_group}
+use Rattle.syn_sample.specs.laws.Prints.{prints_lit, prints_path, prints_group}
 use Rattle.syn_sample.specs.sample.Spelling.{seen_delimiter, shown, IsSegment, a_segment, IsPath, a_path, a_global_path, IsAtom, an_atom_lit, an_atom_path, an_atom_group, AreAtoms, AreSummed, AreStatements, IsSum, IsValue, IsBlock, spells}
 
 -- ---- atoms without their spans, by their kinds

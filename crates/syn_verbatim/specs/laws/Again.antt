@@ -16,7 +16,7 @@ use Rattle.token_core.specs.Trees.{TokenStream, Before, trees, group_of, stream_
 use Rattle.token_core.proofs.Rebuilds.{whole, group_tree, Cuts, rebuilds, stream_of-toks, toks-stream_of, tree-ident, tree-punct, tree-literal, tree-group, stream-trees, visible-tree}
 use Rattle.token_core.proofs.Rows.{row-append}
 use Rattle.syn_verbatim.specs.Held.{seen, levels, held}
-use Rattle.syn_verbatim.specs.Likes.{Like, like_done, like_word, like_mark, like_lit, like_group, left_enter, left_leave, right_enter, right_leave}
+use Rattle.syn_verbatim.specs.laws.Likes.{Like, like_done, like_word, like_mark, like_lit, like_group, left_enter, left_leave, right_enter, right_leave}
 
 -- ---- the trees of a list are held of its tokens
 

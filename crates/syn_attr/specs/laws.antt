@@ -1,0 +1,10 @@
+pub mod Alone
+pub mod Complete
+pub mod ConstsMeet
+pub mod Groups
+pub mod Lengths
+pub mod OuterMeet
+pub mod Prints
+pub mod Reprint
+pub mod Sound
+pub mod Told

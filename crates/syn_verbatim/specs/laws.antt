@@ -1,0 +1,4 @@
+pub mod Likes
+pub mod Again
+pub mod Laws
+pub mod Aside
