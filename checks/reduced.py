@@ -22,7 +22,7 @@ IMPORT = re.compile(r"(?m)^((?:pub(?:\(\w+\))? )?use )([\w:]+)::(?:\{([^}]*)\}|(
 # Traits whose impls may be left out, with words of code that asks for one.
 OPTIONAL = {
     "From": {"from", "into"},
-    "Held": {"Held", "held", "parse_held", "read_type", "read_bound"},
+    "Held": {"Held", "held", "parse_held"},
     "Parse": {"parse", "Parse"},
     "ToTokens": {"append_tokens", "to_tokens", "ToTokens", "print_of"},
 }

@@ -8,7 +8,7 @@ ghost use Rattle.syn_forms.specs.heads.Reading as heads;
 ghost use Rattle.syn_forms.specs.inputs.Reading as inputs;
 ghost use Rattle.syn_forms.specs.lists.Reading as lists;
 ghost use Rattle.syn_forms.specs.nested.Below as below;
-ghost use Rattle.syn_forms.specs.nested.Below.{Nests, ahead};
+ghost use Rattle.syn_forms.specs.nested.Below.{NestsFrom, ahead};
 ghost use Rattle.syn_forms.specs.params.Reading as params;
 ghost use Rattle.syn_forms.specs.paths.Reading as paths;
 
@@ -42,7 +42,7 @@ impl<
         input: &mut ParseStream<'_>,
         place: P,
     ) -> Result<(Star, PointerMutability, Boxed<T>), Error>
-        requires nests { Nests T.read (length self.now.begin) (F.pre self.now.read) (F.post self.now.read) }
+        requires nests { NestsFrom T.read self.now.begin self.now.read F.pre F.post }
         requires few { ahead input.old ≤ length self.now.begin }
         ensures parses { Parses (reading.ptr (below.held T.read (length self.now.begin) place))
             result input.old input.new }
@@ -60,7 +60,7 @@ impl<
         input: &mut ParseStream<'_>,
         place: P,
     ) -> Result<(And, Option<Lifetime>, Option<Mut>, Boxed<T>), Error>
-        requires nests { Nests T.read (length self.now.begin) (F.pre self.now.read) (F.post self.now.read) }
+        requires nests { NestsFrom T.read self.now.begin self.now.read F.pre F.post }
         requires few { ahead input.old ≤ length self.now.begin }
         ensures parses { Parses (reading.reference (below.held T.read (length self.now.begin) place))
             result input.old input.new }

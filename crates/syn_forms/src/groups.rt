@@ -4,7 +4,7 @@ ghost use Rattle.std.specs.Prelude.{◌<◌, ◌≤◌, length, IfOk};
 ghost use Rattle.token_core.specs.Reads.{Parses};
 ghost use Rattle.syn_forms.specs.groups.Reading as reading;
 ghost use Rattle.syn_forms.specs.nested.Below as below;
-ghost use Rattle.syn_forms.specs.nested.Below.{Nests, ahead};
+ghost use Rattle.syn_forms.specs.nested.Below.{NestsFrom, ahead};
 
 use crate::nested::{Nested, Tree};
 use crate::tokens::{open_brackets, open_invisible, open_parens};
@@ -55,7 +55,7 @@ impl<
     /// A tree in brackets.
     #[tactic(auto, using(token_core::proofs::Suffixes::follows))]
     pub fn slice(&self, input: &mut ParseStream<'_>, place: P) -> Result<(Bracket, Boxed<T>), Error>
-        requires nests { Nests T.read (length self.now.begin) (F.pre self.now.read) (F.post self.now.read) }
+        requires nests { NestsFrom T.read self.now.begin self.now.read F.pre F.post }
         requires few { ahead input.old ≤ length self.now.begin }
         ensures parses { Parses (reading.in_brackets (below.held T.read (length self.now.begin) place))
             result input.old input.new }
@@ -73,7 +73,7 @@ impl<
         input: &mut ParseStream<'_>,
         place: P,
     ) -> Result<(Bracket, Boxed<T>, (Semi, E)), Error>
-        requires nests { Nests T.read (length self.now.begin) (F.pre self.now.read) (F.post self.now.read) }
+        requires nests { NestsFrom T.read self.now.begin self.now.read F.pre F.post }
         requires few { ahead input.old ≤ length self.now.begin }
         ensures parses { Parses (reading.array E.reads.len (below.held T.read (length self.now.begin) place))
             result input.old input.new }
@@ -92,7 +92,7 @@ impl<
         input: &mut ParseStream<'_>,
         place: P,
     ) -> Result<(Bracket, InBrackets<T, E>), Error>
-        requires nests { Nests T.read (length self.now.begin) (F.pre self.now.read) (F.post self.now.read) }
+        requires nests { NestsFrom T.read self.now.begin self.now.read F.pre F.post }
         requires few { ahead input.old ≤ length self.now.begin }
         ensures parses { Parses (reading.in_brackets
             (reading.bracket_content E.reads.len (below.held T.read (length self.now.begin) place)))
@@ -112,7 +112,7 @@ impl<
     /// A tree in parentheses.
     #[tactic(auto, using(token_core::proofs::Suffixes::follows))]
     pub fn paren(&self, input: &mut ParseStream<'_>, place: P) -> Result<(Paren, Boxed<T>), Error>
-        requires nests { Nests T.read (length self.now.begin) (F.pre self.now.read) (F.post self.now.read) }
+        requires nests { NestsFrom T.read self.now.begin self.now.read F.pre F.post }
         requires few { ahead input.old ≤ length self.now.begin }
         ensures parses { Parses (reading.in_parens (below.held T.read (length self.now.begin) place))
             result input.old input.new }
@@ -130,7 +130,7 @@ impl<
         input: &mut ParseStream<'_>,
         place: P,
     ) -> Result<Punctuated<T, Comma>, Error>
-        requires nests { Nests T.read (length self.now.begin) (F.pre self.now.read) (F.post self.now.read) }
+        requires nests { NestsFrom T.read self.now.begin self.now.read F.pre F.post }
         requires few { ahead input.old < length self.now.begin }
         ensures parses { Parses (reading.tuple_content (below.held T.read (length self.now.begin) place))
             result input.old input.new }
@@ -149,7 +149,7 @@ impl<
         input: &mut ParseStream<'_>,
         place: P,
     ) -> Result<(Paren, Punctuated<T, Comma>), Error>
-        requires nests { Nests T.read (length self.now.begin) (F.pre self.now.read) (F.post self.now.read) }
+        requires nests { NestsFrom T.read self.now.begin self.now.read F.pre F.post }
         requires few { ahead input.old ≤ length self.now.begin }
         ensures parses { Parses
             (reading.in_parens (reading.tuple_content (below.held T.read (length self.now.begin) place)))
@@ -170,7 +170,7 @@ impl<
         input: &mut ParseStream<'_>,
         place: P,
     ) -> Result<(GroupToken, Boxed<T>), Error>
-        requires nests { Nests T.read (length self.now.begin) (F.pre self.now.read) (F.post self.now.read) }
+        requires nests { NestsFrom T.read self.now.begin self.now.read F.pre F.post }
         requires few { ahead input.old ≤ length self.now.begin }
         ensures parses { Parses (reading.in_invisible (below.held T.read (length self.now.begin) place))
             result input.old input.new }
@@ -191,7 +191,7 @@ impl<
         input: &mut ParseStream<'_>,
         place: P,
     ) -> Result<ParenContent<T, O, Q>, Error>
-        requires nests { Nests T.read (length self.now.begin) (F.pre self.now.read) (F.post self.now.read) }
+        requires nests { NestsFrom T.read self.now.begin self.now.read F.pre F.post }
         requires few { ahead input.old < length self.now.begin }
         ensures parses { Parses (reading.type_or_elements (below.held T.read (length self.now.begin) place))
             result input.old input.new }

@@ -4,7 +4,7 @@ ghost use Rattle.std.specs.Prelude.{◌<◌, ◌≤◌, length, IfOk};
 ghost use Rattle.token_core.specs.Reads.{Parses};
 ghost use Rattle.syn_forms.specs.heads.Reading as reading;
 ghost use Rattle.syn_forms.specs.nested.Below as below;
-ghost use Rattle.syn_forms.specs.nested.Below.{Nests, ahead};
+ghost use Rattle.syn_forms.specs.nested.Below.{NestsFrom, ahead};
 
 use crate::lists::ToGt;
 use crate::nested::{Nested, Tree};
@@ -27,7 +27,7 @@ impl<
         input: &mut ParseStream<'_>,
         place: P,
     ) -> Result<(Lt, Punctuated<T, Comma>, Gt), Error>
-        requires nests { Nests T.read (length self.now.begin) (F.pre self.now.read) (F.post self.now.read) }
+        requires nests { NestsFrom T.read self.now.begin self.now.read F.pre F.post }
         requires few { ahead input.old ≤ length self.now.begin }
         ensures parses { Parses (reading.angled (below.held T.read (length self.now.begin) place))
             result input.old input.new }
@@ -45,7 +45,7 @@ impl<
         input: &mut ParseStream<'_>,
         place: P,
     ) -> Result<(For, (Lt, Punctuated<T, Comma>, Gt)), Error>
-        requires nests { Nests T.read (length self.now.begin) (F.pre self.now.read) (F.post self.now.read) }
+        requires nests { NestsFrom T.read self.now.begin self.now.read F.pre F.post }
         requires few { ahead input.old ≤ length self.now.begin }
         ensures parses { Parses (reading.binder (below.held T.read (length self.now.begin) place))
             result input.old input.new }
@@ -64,7 +64,7 @@ impl<
         input: &mut ParseStream<'_>,
         place: P,
     ) -> Result<Option<(RArrow, Boxed<T>)>, Error>
-        requires nests { Nests T.read (length self.now.begin) (F.pre self.now.read) (F.post self.now.read) }
+        requires nests { NestsFrom T.read self.now.begin self.now.read F.pre F.post }
         requires few { ahead input.old ≤ length self.now.begin }
         ensures parses { Parses (reading.returned (below.held T.read (length self.now.begin) place))
             result input.old input.new }

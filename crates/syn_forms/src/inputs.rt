@@ -7,7 +7,7 @@ ghost use Rattle.token_core.specs.Reads.{Parses, optional};
 ghost use Rattle.syn_forms.specs.groups.Reading.{in_parens};
 ghost use Rattle.syn_forms.specs.inputs.Reading as reading;
 ghost use Rattle.syn_forms.specs.nested.Below as below;
-ghost use Rattle.syn_forms.specs.nested.Below.{Nests, ahead};
+ghost use Rattle.syn_forms.specs.nested.Below.{NestsFrom, ahead};
 ghost use Rattle.syn_forms.specs.verbatim.Reading.{position};
 
 use crate::lists::Make;
@@ -173,7 +173,7 @@ impl<
     /// A name is an identifier or `_` before a `:` that is not `::`. Refused is what the type refuses.
     #[tactic(auto, using(token_core::proofs::Suffixes::follows), unfolding(crate::specs::inputs::Reading::plain_argument))]
     pub fn plain_argument(&self, input: &mut ParseStream<'_>, place: P) -> Result<(Name, T), Error>
-        requires nests { Nests T.read (length self.now.begin) (F.pre self.now.read) (F.post self.now.read) }
+        requires nests { NestsFrom T.read self.now.begin self.now.read F.pre F.post }
         requires few { ahead input.old < length self.now.begin }
         ensures parses { Parses (reading.plain_argument (below.held T.read (length self.now.begin) place))
             result input.old input.new }
@@ -191,7 +191,7 @@ impl<
         place: P,
         verbatim: V,
     ) -> Result<(Name, T), Error>
-        requires nests { Nests T.read (length self.now.begin) (F.pre self.now.read) (F.post self.now.read) }
+        requires nests { NestsFrom T.read self.now.begin self.now.read F.pre F.post }
         requires few { ahead input.old < length self.now.begin }
         ensures parses { Parses
             (reading.mut_self (below.held T.read (length self.now.begin) place) (V.verbatim verbatim))
@@ -217,7 +217,7 @@ impl<
         place: P,
         verbatim: V,
     ) -> Result<(Name, T), Error>
-        requires nests { Nests T.read (length self.now.begin) (F.pre self.now.read) (F.post self.now.read) }
+        requires nests { NestsFrom T.read self.now.begin self.now.read F.pre F.post }
         requires few { ahead input.old < length self.now.begin }
         ensures parses { Parses
             (reading.named_argument (below.held T.read (length self.now.begin) place) (V.verbatim verbatim))
@@ -240,7 +240,7 @@ impl<
         place: P,
         verbatim: V,
     ) -> Result<(Name, T), Error>
-        requires nests { Nests T.read (length self.now.begin) (F.pre self.now.read) (F.post self.now.read) }
+        requires nests { NestsFrom T.read self.now.begin self.now.read F.pre F.post }
         requires few { ahead input.old < length self.now.begin }
         ensures parses { Parses
             (reading.first_argument (below.held T.read (length self.now.begin) place) (V.verbatim verbatim))
@@ -264,7 +264,7 @@ impl<
         verbatim: V,
         first: bool,
     ) -> Result<(Name, T), Error>
-        requires nests { Nests T.read (length self.now.begin) (F.pre self.now.read) (F.post self.now.read) }
+        requires nests { NestsFrom T.read self.now.begin self.now.read F.pre F.post }
         requires few { ahead input.old < length self.now.begin }
         ensures parses { Parses
             (reading.argument (below.held T.read (length self.now.begin) place) (V.verbatim verbatim) first)
@@ -292,7 +292,7 @@ impl<
         make: K,
         verbatim: V,
     ) -> Result<Inputs<B, I>, Error>
-        requires nests { Nests T.read (length self.now.begin) (F.pre self.now.read) (F.post self.now.read) }
+        requires nests { NestsFrom T.read self.now.begin self.now.read F.pre F.post }
         requires few { ahead input.old < length self.now.begin }
         ensures parses { Parses (reading.inputs (K.make make)
             B.reads (below.held T.read (length self.now.begin) place) (V.verbatim verbatim))
@@ -329,7 +329,7 @@ impl<
         place: P,
         make: K,
     ) -> Result<(Paren, Punctuated<V, Comma>), Error>
-        requires nests { Nests T.read (length self.now.begin) (F.pre self.now.read) (F.post self.now.read) }
+        requires nests { NestsFrom T.read self.now.begin self.now.read F.pre F.post }
         requires few { ahead input.old ≤ length self.now.begin }
         ensures parses { Parses
             (in_parens (reading.made_inputs (K.make make) (below.held T.read (length self.now.begin) place)))
@@ -353,7 +353,7 @@ impl<
         output_place: P,
         make: K,
     ) -> Result<Signature<T, V>, Error>
-        requires nests { Nests T.read (length self.now.begin) (F.pre self.now.read) (F.post self.now.read) }
+        requires nests { NestsFrom T.read self.now.begin self.now.read F.pre F.post }
         requires few { ahead input.old ≤ length self.now.begin }
         ensures parses { Parses (reading.signature (K.make make) (below.held T.read (length self.now.begin) value_place)
             (below.held T.read (length self.now.begin) output_place))

@@ -9,7 +9,7 @@ ghost use Rattle.syn_forms.specs.lists.Reading as reading;
 ghost use Rattle.syn_forms.specs.params.Reading as params;
 ghost use Rattle.syn_forms.specs.tokens.Reading as tokens;
 ghost use Rattle.syn_forms.specs.nested.Below as below;
-ghost use Rattle.syn_forms.specs.nested.Below.{Nests, ahead};
+ghost use Rattle.syn_forms.specs.nested.Below.{NestsFrom, ahead};
 
 use crate::nested::{Nested, Tree};
 use crate::tokens::{parse_comma, parse_plus};
@@ -268,7 +268,7 @@ impl<
         mut list: Punctuated<V, M>,
         mut first: bool,
     ) -> Result<Punctuated<V, M>, Error>
-        requires nests { Nests T.read (length self.now.begin) (F.pre self.now.read) (F.post self.now.read) }
+        requires nests { NestsFrom T.read self.now.begin self.now.read F.pre F.post }
         requires few { ahead input.old < length self.now.begin }
         requires whole { length list.0 ≡ length list.1 }
         ensures parses { Parses (λ s. after list
@@ -299,7 +299,7 @@ impl<
         list: Punctuated<T, M>,
         first: bool,
     ) -> Result<Punctuated<T, M>, Error>
-        requires nests { Nests T.read (length self.now.begin) (F.pre self.now.read) (F.post self.now.read) }
+        requires nests { NestsFrom T.read self.now.begin self.now.read F.pre F.post }
         requires few { ahead input.old < length self.now.begin }
         requires whole { length list.0 ≡ length list.1 }
         ensures parses { Parses (λ s. after list (reading.list (S.stops end)
@@ -317,7 +317,7 @@ impl<
         place: P,
         end: S,
     ) -> Result<Punctuated<T, M>, Error>
-        requires nests { Nests T.read (length self.now.begin) (F.pre self.now.read) (F.post self.now.read) }
+        requires nests { NestsFrom T.read self.now.begin self.now.read F.pre F.post }
         requires few { ahead input.old < length self.now.begin }
         ensures parses { Parses (reading.list (S.stops end)
             (below.held T.read (length self.now.begin) place) (S.more end) (S.joint end) true)
@@ -335,7 +335,7 @@ impl<
         end: S,
         first: T,
     ) -> Result<Punctuated<T, M>, Error>
-        requires nests { Nests T.read (length self.now.begin) (F.pre self.now.read) (F.post self.now.read) }
+        requires nests { NestsFrom T.read self.now.begin self.now.read F.pre F.post }
         requires few { ahead input.old ≤ length self.now.begin }
         ensures parses { Parses (reading.list_from (S.stops end)
             (below.held T.read (length self.now.begin) place) (S.more end) (S.joint end) first)
@@ -358,7 +358,7 @@ impl<
         place: P,
         make: K,
     ) -> Result<Punctuated<V, Comma>, Error>
-        requires nests { Nests T.read (length self.now.begin) (F.pre self.now.read) (F.post self.now.read) }
+        requires nests { NestsFrom T.read self.now.begin self.now.read F.pre F.post }
         requires few { ahead input.old < length self.now.begin }
         ensures parses { Parses (terminated is_done
             (reading.made (K.make make) (below.held T.read (length self.now.begin) place)) tokens.comma)
@@ -375,7 +375,7 @@ impl<
         place: P,
         first: T,
     ) -> Result<Punctuated<T, Comma>, Error>
-        requires nests { Nests T.read (length self.now.begin) (F.pre self.now.read) (F.post self.now.read) }
+        requires nests { NestsFrom T.read self.now.begin self.now.read F.pre F.post }
         requires few { ahead input.old < length self.now.begin }
         ensures parses { Parses (reading.more_elements (below.held T.read (length self.now.begin) place) first)
             result input.old input.new }

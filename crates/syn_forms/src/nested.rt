@@ -3,7 +3,7 @@
 ghost use Rattle.std.specs.Prelude.{◌<◌, length};
 ghost use Rattle.token_core.specs.Reads.{Reader, Reads, Follows, Parses};
 ghost use Rattle.syn_forms.specs.nested.Below as below;
-ghost use Rattle.syn_forms.specs.nested.Below.{Nests, ahead};
+ghost use Rattle.syn_forms.specs.nested.Below.{NestsFrom, ahead};
 
 use std::alloc::Global;
 use std::marker::PhantomData;
@@ -49,7 +49,7 @@ impl<
     /// A tree that the form holds.
     #[tactic(auto, using(token_core::proofs::Suffixes::follows))]
     pub fn value(&self, input: &mut ParseStream<'_>, place: P) -> Result<T, Error>
-        requires nests { Nests T.read (length self.now.begin) (F.pre self.now.read) (F.post self.now.read) }
+        requires nests { NestsFrom T.read self.now.begin self.now.read F.pre F.post }
         requires few { ahead input.old < length self.now.begin }
         ensures parses { Parses (below.held T.read (length self.now.begin) place) result input.old input.new }
     {
@@ -59,7 +59,7 @@ impl<
     /// The same on the heap, so that one word is at hand and dropped where what follows is refused.
     #[tactic(auto, unfolding(crate::specs::nested::Below::held))]
     pub fn boxed(&self, input: &mut ParseStream<'_>, place: P) -> Result<Boxed<T>, Error>
-        requires nests { Nests T.read (length self.now.begin) (F.pre self.now.read) (F.post self.now.read) }
+        requires nests { NestsFrom T.read self.now.begin self.now.read F.pre F.post }
         requires few { ahead input.old < length self.now.begin }
         ensures parses { Parses (below.held T.read (length self.now.begin) place) result input.old input.new }
     {

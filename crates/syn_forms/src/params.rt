@@ -8,7 +8,7 @@ ghost use Rattle.syn_forms.specs.heads.Reading.{angled};
 ghost use Rattle.syn_forms.specs.lists.Reading.{bounds_to};
 ghost use Rattle.syn_forms.specs.params.Reading as reading;
 ghost use Rattle.syn_forms.specs.nested.Below as below;
-ghost use Rattle.syn_forms.specs.nested.Below.{Nests, ahead};
+ghost use Rattle.syn_forms.specs.nested.Below.{NestsFrom, ahead};
 
 use crate::lists::{ToLifetimeParamEnd, ToTypeParamEnd};
 use crate::nested::{Nested, Tree};
@@ -136,7 +136,7 @@ impl<
         place: P,
         colon_token: Option<Colon>,
     ) -> Result<Punctuated<T, Plus>, Error>
-        requires nests { Nests T.read (length self.now.begin) (F.pre self.now.read) (F.post self.now.read) }
+        requires nests { NestsFrom T.read self.now.begin self.now.read F.pre F.post }
         requires few { ahead input.old < length self.now.begin }
         ensures parses { Parses
             (reading.bounds_after reading.ends_type (below.held T.read (length self.now.begin) place) colon_token)
@@ -151,7 +151,7 @@ impl<
     /// `=` and a default, where it stands.
     #[tactic(auto, using(token_core::proofs::Suffixes::follows), unfolding(crate::specs::params::Reading::given))]
     fn default_of(&self, input: &mut ParseStream<'_>, place: P) -> Result<Option<(Eq, T)>, Error>
-        requires nests { Nests T.read (length self.now.begin) (F.pre self.now.read) (F.post self.now.read) }
+        requires nests { NestsFrom T.read self.now.begin self.now.read F.pre F.post }
         requires few { ahead input.old ≤ length self.now.begin }
         ensures parses { Parses (reading.default_of (below.held T.read (length self.now.begin) place))
             result input.old input.new }
@@ -185,8 +185,8 @@ pub fn type_parts<
     bound_place: PB,
     type_place: PT,
 ) -> Result<(Ident, Option<Colon>, Punctuated<B, Plus>, Option<(Eq, T)>), Error>
-    requires nests_bounds { Nests B.read (length bounds.now.begin) (FB.pre bounds.now.read) (FB.post bounds.now.read) }
-    requires nests_types { Nests T.read (length types.now.begin) (FT.pre types.now.read) (FT.post types.now.read) }
+    requires nests_bounds { NestsFrom B.read bounds.now.begin bounds.now.read FB.pre FB.post }
+    requires nests_types { NestsFrom T.read types.now.begin types.now.read FT.pre FT.post }
     requires few_bounds { ahead input.old ≤ length bounds.now.begin }
     requires few_types { ahead input.old ≤ length types.now.begin }
     ensures parses { Parses (reading.type_parts (below.held B.read (length bounds.now.begin) bound_place)
@@ -234,7 +234,7 @@ pub fn const_parts<
     input: &mut ParseStream<'_>,
     place: P,
 ) -> Result<(Const, Ident, Colon, T, Option<(Eq, E)>), Error>
-    requires nests { Nests T.read (length types.now.begin) (F.pre types.now.read) (F.post types.now.read) }
+    requires nests { NestsFrom T.read types.now.begin types.now.read F.pre F.post }
     requires few { ahead input.old ≤ length types.now.begin }
     ensures parses { Parses
         (reading.const_parts (below.held T.read (length types.now.begin) place) E.reads.const_argument)

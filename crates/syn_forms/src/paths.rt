@@ -7,7 +7,7 @@ ghost use Rattle.token_core.specs.Reads.{Parses, and_then, pure, sees_word, read
 ghost use Rattle.token_core.specs.Toks.{Toks};
 ghost use Rattle.syn_path.specs.path.Reading.{sees_sep};
 ghost use Rattle.syn_forms.specs.nested.Below as below;
-ghost use Rattle.syn_forms.specs.nested.Below.{Nests, ahead};
+ghost use Rattle.syn_forms.specs.nested.Below.{NestsFrom, ahead};
 ghost use Rattle.syn_forms.specs.paths.Reading as reading;
 
 use crate::nested::{Nested, Tree};
@@ -118,7 +118,7 @@ impl<
         style: PathStyle,
         ident: Ident,
     ) -> Result<PathSegmentOf<G>, Error>
-        requires nests { Nests G.read (length self.now.begin) (F.pre self.now.read) (F.post self.now.read) }
+        requires nests { NestsFrom G.read self.now.begin self.now.read F.pre F.post }
         requires few { ahead input.old < length self.now.begin }
         ensures parses { Parses
             (reading.named_segment G.absent (below.held G.read (length self.now.begin) tt) style ident)
@@ -145,7 +145,7 @@ impl<
         input: &mut ParseStream<'_>,
         style: PathStyle,
     ) -> Result<PathSegmentOf<G>, Error>
-        requires nests { Nests G.read (length self.now.begin) (F.pre self.now.read) (F.post self.now.read) }
+        requires nests { NestsFrom G.read self.now.begin self.now.read F.pre F.post }
         requires few { ahead input.old ≤ length self.now.begin }
         ensures parses { Parses (reading.segment G.absent (below.held G.read (length self.now.begin) tt) style)
             result input.old input.new }
@@ -167,7 +167,7 @@ impl<
         further: S,
         mut segments: Punctuated<PathSegmentOf<G>, PathSep>,
     ) -> Result<Punctuated<PathSegmentOf<G>, PathSep>, Error>
-        requires nests { Nests G.read (length self.now.begin) (F.pre self.now.read) (F.post self.now.read) }
+        requires nests { NestsFrom G.read self.now.begin self.now.read F.pre F.post }
         requires few { ahead input.old ≤ length self.now.begin }
         requires whole { length segments.0 ≡ length segments.1 }
         ensures parses { Parses (λ s. after segments
@@ -195,7 +195,7 @@ impl<
     #[tactic(auto, using(token_core::proofs::Suffixes::follows), unfolding(crate::specs::paths::Reading::path))]
     #[inline(never)]
     pub fn path(&self, input: &mut ParseStream<'_>, style: PathStyle) -> Result<PathOf<G>, Error>
-        requires nests { Nests G.read (length self.now.begin) (F.pre self.now.read) (F.post self.now.read) }
+        requires nests { NestsFrom G.read self.now.begin self.now.read F.pre F.post }
         requires few { ahead input.old ≤ length self.now.begin }
         ensures parses { Parses (reading.path G.absent (below.held G.read (length self.now.begin) tt) style)
             result input.old input.new }
@@ -224,7 +224,7 @@ impl<
         path: PathOf<G>,
         sep: PathSep,
     ) -> Result<PathOf<G>, Error>
-        requires nests { Nests G.read (length self.now.begin) (F.pre self.now.read) (F.post self.now.read) }
+        requires nests { NestsFrom G.read self.now.begin self.now.read F.pre F.post }
         requires few { ahead input.old ≤ length self.now.begin }
         requires ended { length path.segments.0 ≡ length path.segments.1 + 1 }
         ensures parses { Parses (λ s. and_then (reading.segments G.absent (below.held G.read (length self.now.begin) tt)
@@ -253,7 +253,7 @@ impl<
         style: PathStyle,
         path: PathOf<G>,
     ) -> Result<PathOf<G>, Error>
-        requires nests { Nests G.read (length self.now.begin) (F.pre self.now.read) (F.post self.now.read) }
+        requires nests { NestsFrom G.read self.now.begin self.now.read F.pre F.post }
         requires few { ahead input.old ≤ length self.now.begin }
         ensures parses { Parses (reading.rest G.absent (below.held G.read (length self.now.begin) tt) style path)
             result input.old input.new }
@@ -268,7 +268,7 @@ impl<
     /// `as` and a path, that may be there.
     #[tactic(auto, using(token_core::proofs::Suffixes::follows), unfolding(crate::specs::paths::Reading::as_path))]
     fn as_path(&self, input: &mut ParseStream<'_>) -> Result<Option<(As, PathOf<G>)>, Error>
-        requires nests { Nests G.read (length self.now.begin) (F.pre self.now.read) (F.post self.now.read) }
+        requires nests { NestsFrom G.read self.now.begin self.now.read F.pre F.post }
         requires few { ahead input.old ≤ length self.now.begin }
         ensures parses { Parses (reading.as_path G.absent (below.held G.read (length self.now.begin) tt))
             result input.old input.new }
@@ -300,9 +300,9 @@ impl<
         place: P,
         style: PathStyle,
     ) -> Result<(QSelfOf<T>, PathOf<G>), Error>
-        requires nests { Nests G.read (length self.now.begin) (F.pre self.now.read) (F.post self.now.read) }
+        requires nests { NestsFrom G.read self.now.begin self.now.read F.pre F.post }
         requires few { ahead input.old ≤ length self.now.begin }
-        requires nests_types { Nests T.read (length types.now.begin) (H.pre types.now.read) (H.post types.now.read) }
+        requires nests_types { NestsFrom T.read types.now.begin types.now.read H.pre H.post }
         requires few_types { ahead input.old ≤ length types.now.begin }
         ensures parses { Parses (reading.qualified (below.held T.read (length types.now.begin) place)
             G.absent (below.held G.read (length self.now.begin) tt) style)
@@ -324,7 +324,7 @@ impl<
         style: PathStyle,
         before: (Lt, Boxed<T>, Option<(As, PathOf<G>)>, Gt, PathSep),
     ) -> Result<(QSelfOf<T>, PathOf<G>), Error>
-        requires nests { Nests G.read (length self.now.begin) (F.pre self.now.read) (F.post self.now.read) }
+        requires nests { NestsFrom G.read self.now.begin self.now.read F.pre F.post }
         requires few { ahead input.old ≤ length self.now.begin }
         requires ended { IfSome before.2 (λ a. length a.1.segments.0 ≡ length a.1.segments.1 + 1) }
         ensures parses { Parses
@@ -384,9 +384,9 @@ impl<
         place: P,
         style: PathStyle,
     ) -> Result<(Option<QSelfOf<T>>, PathOf<G>), Error>
-        requires nests { Nests G.read (length self.now.begin) (F.pre self.now.read) (F.post self.now.read) }
+        requires nests { NestsFrom G.read self.now.begin self.now.read F.pre F.post }
         requires few { ahead input.old ≤ length self.now.begin }
-        requires nests_types { Nests T.read (length types.now.begin) (H.pre types.now.read) (H.post types.now.read) }
+        requires nests_types { NestsFrom T.read types.now.begin types.now.read H.pre H.post }
         requires few_types { ahead input.old ≤ length types.now.begin }
         ensures parses { Parses (reading.maybe_qualified (below.held T.read (length types.now.begin) place)
             G.absent (below.held G.read (length self.now.begin) tt) style)

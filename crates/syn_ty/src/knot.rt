@@ -37,7 +37,7 @@ impl<A: Attributes, E: Value> Tree<()> for PathArgumentsOf<A, E> {
 /// Reads a type in its place.
 #[cycle(knot)]
 #[tactic(auto, using(crate::proofs::ty_laws::Knot::turns))]
-pub fn parse_type<A: Attributes, E: Value>(
+pub fn read_type<A: Attributes, E: Value>(
     alloc: Global,
     of: PhantomData<TypeOf<A, E>>,
     input: &mut ParseStream<'_>,
@@ -49,11 +49,11 @@ pub fn parse_type<A: Attributes, E: Value>(
         alloc,
         of: PhantomData,
         begin: input.cursor(),
-        types: parse_type::<A, E>,
-        bounds: parse_bound::<A, E>,
-        params: parse_param::<A, E>,
-        args: parse_argument::<A, E>,
-        segments: parse_arguments::<A, E>,
+        types: read_type::<A, E>,
+        bounds: read_bound::<A, E>,
+        params: read_param::<A, E>,
+        args: read_argument::<A, E>,
+        segments: read_arguments::<A, E>,
     }
     .type_step(input, place)
 }
@@ -61,7 +61,7 @@ pub fn parse_type<A: Attributes, E: Value>(
 /// Reads a bound in its place.
 #[cycle(knot)]
 #[tactic(auto, using(crate::proofs::ty_laws::Knot::turns))]
-pub fn parse_bound<A: Attributes, E: Value>(
+pub fn read_bound<A: Attributes, E: Value>(
     alloc: Global,
     of: PhantomData<TypeParamBoundOf<A, E>>,
     input: &mut ParseStream<'_>,
@@ -73,11 +73,11 @@ pub fn parse_bound<A: Attributes, E: Value>(
         alloc,
         of: PhantomData,
         begin: input.cursor(),
-        types: parse_type::<A, E>,
-        bounds: parse_bound::<A, E>,
-        params: parse_param::<A, E>,
-        args: parse_argument::<A, E>,
-        segments: parse_arguments::<A, E>,
+        types: read_type::<A, E>,
+        bounds: read_bound::<A, E>,
+        params: read_param::<A, E>,
+        args: read_argument::<A, E>,
+        segments: read_arguments::<A, E>,
     }
     .bound_step(input, place)
 }
@@ -85,7 +85,7 @@ pub fn parse_bound<A: Attributes, E: Value>(
 /// Reads a parameter in its place.
 #[cycle(knot)]
 #[tactic(auto, using(crate::proofs::ty_laws::Knot::turns))]
-pub fn parse_param<A: Attributes, E: Value>(
+pub fn read_param<A: Attributes, E: Value>(
     alloc: Global,
     of: PhantomData<GenericParamOf<A, E>>,
     input: &mut ParseStream<'_>,
@@ -97,11 +97,11 @@ pub fn parse_param<A: Attributes, E: Value>(
         alloc,
         of: PhantomData,
         begin: input.cursor(),
-        types: parse_type::<A, E>,
-        bounds: parse_bound::<A, E>,
-        params: parse_param::<A, E>,
-        args: parse_argument::<A, E>,
-        segments: parse_arguments::<A, E>,
+        types: read_type::<A, E>,
+        bounds: read_bound::<A, E>,
+        params: read_param::<A, E>,
+        args: read_argument::<A, E>,
+        segments: read_arguments::<A, E>,
     }
     .param_step(input, place)
 }
@@ -109,7 +109,7 @@ pub fn parse_param<A: Attributes, E: Value>(
 /// Reads an argument in angle brackets. It has one place.
 #[cycle(knot)]
 #[tactic(auto, using(crate::proofs::ty_laws::Knot::turns))]
-pub fn parse_argument<A: Attributes, E: Value>(
+pub fn read_argument<A: Attributes, E: Value>(
     alloc: Global,
     of: PhantomData<GenericArgumentOf<A, E>>,
     input: &mut ParseStream<'_>,
@@ -121,11 +121,11 @@ pub fn parse_argument<A: Attributes, E: Value>(
         alloc,
         of: PhantomData,
         begin: input.cursor(),
-        types: parse_type::<A, E>,
-        bounds: parse_bound::<A, E>,
-        params: parse_param::<A, E>,
-        args: parse_argument::<A, E>,
-        segments: parse_arguments::<A, E>,
+        types: read_type::<A, E>,
+        bounds: read_bound::<A, E>,
+        params: read_param::<A, E>,
+        args: read_argument::<A, E>,
+        segments: read_arguments::<A, E>,
     }
     .argument_step(input)
 }
@@ -133,7 +133,7 @@ pub fn parse_argument<A: Attributes, E: Value>(
 /// Reads the arguments of a segment, in angle brackets. They have one place.
 #[cycle(knot)]
 #[tactic(auto, using(crate::proofs::ty_laws::Knot::turns))]
-pub fn parse_arguments<A: Attributes, E: Value>(
+pub fn read_arguments<A: Attributes, E: Value>(
     alloc: Global,
     of: PhantomData<PathArgumentsOf<A, E>>,
     input: &mut ParseStream<'_>,
@@ -145,11 +145,11 @@ pub fn parse_arguments<A: Attributes, E: Value>(
         alloc,
         of: PhantomData,
         begin: input.cursor(),
-        types: parse_type::<A, E>,
-        bounds: parse_bound::<A, E>,
-        params: parse_param::<A, E>,
-        args: parse_argument::<A, E>,
-        segments: parse_arguments::<A, E>,
+        types: read_type::<A, E>,
+        bounds: read_bound::<A, E>,
+        params: read_param::<A, E>,
+        args: read_argument::<A, E>,
+        segments: read_arguments::<A, E>,
     }
     .arguments_step(input)
 }
@@ -166,7 +166,7 @@ impl<A: Attributes, E: Value> Held<TypePlace> for TypeOf<A, E> {
         ensures reads { Reads (knot.ty A.reads E.reads place input.old) result input.new }
         ensures within { Follows input.old input.new }
     {
-        parse_type(alloc, of, input, place)
+        read_type(alloc, of, input, place)
     }
 }
 
@@ -180,7 +180,7 @@ impl<A: Attributes, E: Value> Held<BoundPlace> for TypeParamBoundOf<A, E> {
         ensures reads { Reads (knot.bound A.reads E.reads place input.old) result input.new }
         ensures within { Follows input.old input.new }
     {
-        parse_bound(alloc, of, input, place)
+        read_bound(alloc, of, input, place)
     }
 }
 
@@ -194,7 +194,7 @@ impl<A: Attributes, E: Value> Held<ParamPlace> for GenericParamOf<A, E> {
         ensures reads { Reads (knot.param A.reads E.reads place input.old) result input.new }
         ensures within { Follows input.old input.new }
     {
-        parse_param(alloc, of, input, place)
+        read_param(alloc, of, input, place)
     }
 }
 
@@ -208,7 +208,7 @@ impl<A: Attributes, E: Value> Held<()> for GenericArgumentOf<A, E> {
         ensures reads { Reads (knot.argument A.reads E.reads input.old) result input.new }
         ensures within { Follows input.old input.new }
     {
-        parse_argument(alloc, of, input, place)
+        read_argument(alloc, of, input, place)
     }
 }
 
@@ -222,6 +222,6 @@ impl<A: Attributes, E: Value> Held<()> for PathArgumentsOf<A, E> {
         ensures reads { Reads (knot.arguments A.reads E.reads input.old) result input.new }
         ensures within { Follows input.old input.new }
     {
-        parse_arguments(alloc, of, input, place)
+        read_arguments(alloc, of, input, place)
     }
 }

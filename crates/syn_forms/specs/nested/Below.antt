@@ -1,5 +1,5 @@
 -- Reads that are asked only further on: where less of the buffer is left.
-use Rattle.std.specs.Prelude.{ℕ, ◌<◌, Bool, true, false, nat_lt, ◌++◌, length, Err, Result}
+use Rattle.std.specs.Prelude.{ℕ, ◌<◌, Bool, true, false, nat_lt, List, ◌++◌, length, Err, Result}
 use Rattle.std.specs.declared.alloc.Global.{Global}
 use denote.Ref.{MutBor}
 use Rattle.token_core.specs.declared.error.ErrorKind.TheVariants.{Unexpected}
@@ -24,9 +24,19 @@ below limit p s = below_if (nat_lt (ahead s) limit) p s
 unfoldable pub held : {P A : Type 0} → (P → Reader A) → ℕ → P → Reader A
 held r limit place = below limit (r place)
 
--- a function value that reads in a place where less than the limit is left; its second argument tells what it reads
-pub record Nests {W P A : Type 0} (reader : P → Reader A) (limit : ℕ) (pre : Global → W → MutBor Stream → P → Type 0)
-    (post : Global → W → MutBor Stream → P → Result A Refusal → MutBor Stream → Type 0) : Type 0 where
+-- when a function value that reads may be called, and what it answers then; its second argument tells what it reads
+abbrev pub Asks : Type 0 → Type 0 → Type 1
+Asks W P = Global → W → MutBor Stream → P → Type 0
+
+abbrev pub Answers : Type 0 → Type 0 → Type 0 → Type 1
+Answers W P A = Global → W → MutBor Stream → P → Result A Refusal → MutBor Stream → Type 0
+
+-- such a value reads in a place where less than the limit is left
+pub record Nests {W P A : Type 0} (reader : P → Reader A) (limit : ℕ) (pre : Asks W P) (post : Answers W P A) : Type 0 where
   pub callable : (alloc : Global) (of : W) (old : MutBor Stream) (place : P) → ahead old.now < limit → pre alloc of old place
   pub reads : (alloc : Global) (of : W) (old new : MutBor Stream) (place : P) (r : Result A Refusal) → post alloc of old place r new → Reads (reader place old.now) r new.now
   pub within : (alloc : Global) (of : W) (old new : MutBor Stream) (place : P) (r : Result A Refusal) → post alloc of old place r new → Follows old.now new.now
+
+-- this function value does so further on than here, where so much of the buffer is left
+abbrev pub NestsFrom : {I F W P A : Type 0} → (P → Reader A) → List I → F → (F → Asks W P) → (F → Answers W P A) → Type 0
+NestsFrom reader here f pre post = Nests reader (length here) (pre f) (post f)

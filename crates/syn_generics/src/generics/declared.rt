@@ -28,7 +28,7 @@ use syn_forms::tokens::{parse_colon, parse_where};
 use syn_path::supplied::{Attributes, Value};
 use syn_ty::generics::read::optional_binder_from;
 use syn_ty::generics::{GenericParamOf, TypeParamBoundOf};
-use syn_ty::grammar::read_type;
+use syn_ty::knot::read_type;
 use token_core::token::{Colon, Comma, Const, Eq, Gt, Lt, PathSep, Plus, Pound, Where};
 use token_core::{
     Boxed, Cursor, Error, ErrorKind, Ident, Items, Lifetime, Parse, ParseStream, Punctuated,

@@ -1,13 +1,14 @@
 -- The read of patterns, tied: each turn asks only about streams of which less is left, so how much is left is turns enough.
-use Rattle.std.specs.Prelude.{ℕ, zero, suc, if◌then◌else◌, []}
+use Rattle.std.specs.Prelude.{ℕ, zero, suc, if◌then◌else◌, List, []}
 use Rattle.syn_attr.specs.attr.Attrs.{Attribute as Attr}
 use Rattle.syn_attr.specs.attr.Reading.{outer}
 use Rattle.syn_attr.specs.declared.expr.Expr.{Expr}
 use Rattle.syn_attr.specs.declared.expr.Expr.TheVariants as e
 use Rattle.syn_forms.specs.declared.places.TypePlace.TheVariants.{Plus}
-use Rattle.syn_forms.specs.nested.Below.{ahead, below, held}
+use Rattle.syn_forms.specs.nested.Below.{Answers, Asks, NestsFrom, ahead, below, held}
 use Rattle.syn_pat.specs.declared.pat.PatOf.TheVariants as v
 use Rattle.syn_pat.specs.declared.pat.PatTypeOf.{PatTypeOf}
+use Rattle.syn_pat.specs.declared.place.PatPlace.{PatPlace}
 use Rattle.syn_pat.specs.declared.place.PatPlace.TheVariants.{LeadingVert, Single}
 use Rattle.syn_pat.specs.pat.Pats.{PatOver, PatType, guard_of, typed_of}
 use Rattle.syn_pat.specs.pat.Reading.{Named, ReadersOver, pat_step, type_names, values}
@@ -30,6 +31,10 @@ module _ {X G Q T : Type 0} (supplied : Place → Reader X) (names : Named G Q) 
   -- where less than the limit is left
   abbrev pub pats_below : ℕ → ReadersOver X G Q T
   pats_below limit = held pat limit
+
+  -- the function value that reads them further on than here
+  abbrev pub Pats : {I F W : Type 0} → List I → F → (F → Asks W PatPlace) → (F → Answers W PatPlace (PatOver X G Q T)) → Type 0
+  Pats = NestsFrom pat
 
   -- ---- outermost
 

@@ -12,7 +12,7 @@ ghost use Rattle.syn_forms.specs.declared.places.BoundPlace.TheVariants as bound
 ghost use Rattle.syn_forms.specs.declared.places.ParamPlace.TheVariants as param_places;
 ghost use Rattle.syn_forms.specs.groups.Reading as groups;
 ghost use Rattle.syn_forms.specs.lists.Reading.{list};
-ghost use Rattle.syn_forms.specs.nested.Below.{Nests, ahead};
+ghost use Rattle.syn_forms.specs.nested.Below.{ahead};
 ghost use Rattle.syn_forms.specs.tokens.Choices.{none_of, a_comma, a_const, a_gt, a_lifetime, an_ident};
 ghost use Rattle.syn_ty.specs.generics.Params as parts;
 ghost use Rattle.syn_ty.specs.generics.Reading as reading;
@@ -29,13 +29,13 @@ use crate::generics::{
     PreciseCapture, TraitBoundModifiers, TraitBoundOf, TypeParamBoundOf, TypeParamOf,
 };
 use crate::grammar::Grammar;
+use crate::knot::{read_bound, read_param};
 use crate::path::PathArgumentsOf;
 use crate::path::read::{path_from, signed_from};
 use crate::ty::TypeOf;
 use std::alloc::Global;
 use std::marker::PhantomData;
 use syn_forms::forms;
-use syn_forms::nested::Held;
 use syn_forms::params::{const_parts, parse_lifetime_parts, type_parts};
 use syn_forms::places::{BoundPlace, ParamPlace, TypePlace};
 use syn_forms::tokens::{
@@ -409,7 +409,16 @@ fn boxed_param<A: Attributes, E: Value>(
 
 // ---- over the readers of what they hold
 
-impl<'a, A: Attributes, E: Value, F, G, H, I, J> Grammar<'a, A, E, F, G, H, I, J> {
+impl<'a, A: Attributes, E: Value, Types, Bounds, Params, Args, Segments> Grammar<
+    'a,
+    A,
+    E,
+    Types,
+    Bounds,
+    Params,
+    Args,
+    Segments,
+> {
     /// A capture as a bound; where none may stand it is refused once it is read, from `use` to `>`.
     #[tactic(auto, using(token_core::proofs::Suffixes::follows), unfolding(crate::specs::generics::Reading::capture_in_place))]
     fn capture_in_place(
@@ -434,26 +443,25 @@ impl<
     'a,
     A: Attributes,
     E: Value,
-    F,
-    G,
-    H: Fn(
+    Types,
+    Bounds,
+    Params: Fn(
         Global,
         PhantomData<GenericParamOf<A, E>>,
         &mut ParseStream<'_>,
         ParamPlace,
     ) -> Result<Boxed<GenericParamOf<A, E>>, Error>
         + Copy,
-    I,
-    J,
-> Grammar<'a, A, E, F, G, H, I, J> {
+    Args,
+    Segments,
+> Grammar<'a, A, E, Types, Bounds, Params, Args, Segments> {
     /// A binder: `for<'a, 'b>`.
     #[tactic(auto, using(token_core::proofs::Suffixes::follows), unfolding(crate::specs::generics::Reading::binder))]
     pub fn binder(
         &self,
         input: &mut ParseStream<'_>,
     ) -> Result<BoundLifetimesOf<GenericParamOf<A, E>>, Error>
-        requires params { Nests (knot.param A.reads E.reads) (length self.now.begin)
-            (H.pre self.now.params) (H.post self.now.params) }
+        requires params { knot.Params A.reads E.reads self.now.begin self.now.params Params.pre Params.post }
         requires few { ahead input.old ≤ length self.now.begin }
         ensures parses { Parses (reading.binder (knot.reads_below A.reads E.reads (length self.now.begin)))
             result input.old input.new }
@@ -475,8 +483,7 @@ impl<
         &self,
         input: &mut ParseStream<'_>,
     ) -> Result<Option<BoundLifetimesOf<GenericParamOf<A, E>>>, Error>
-        requires params { Nests (knot.param A.reads E.reads) (length self.now.begin)
-            (H.pre self.now.params) (H.post self.now.params) }
+        requires params { knot.Params A.reads E.reads self.now.begin self.now.params Params.pre Params.post }
         requires few { ahead input.old ≤ length self.now.begin }
         ensures parses { Parses (reading.optional_binder (knot.reads_below A.reads E.reads (length self.now.begin)))
             result input.old input.new }
@@ -495,8 +502,7 @@ impl<
         lifetimes: Option<BoundLifetimesOf<GenericParamOf<A, E>>>,
         maybe: &Option<Question>,
     ) -> Result<Option<BoundLifetimesOf<GenericParamOf<A, E>>>, Error>
-        requires params { Nests (knot.param A.reads E.reads) (length self.now.begin)
-            (H.pre self.now.params) (H.post self.now.params) }
+        requires params { knot.Params A.reads E.reads self.now.begin self.now.params Params.pre Params.post }
         requires few { ahead input.old ≤ length self.now.begin }
         ensures parses { Parses
             (reading.binder_after (knot.reads_below A.reads E.reads (length self.now.begin)) lifetimes maybe.now)
@@ -516,30 +522,30 @@ impl<
     'a,
     A: Attributes,
     E: Value,
-    F: Fn(
+    Types: Fn(
         Global,
         PhantomData<TypeOf<A, E>>,
         &mut ParseStream<'_>,
         TypePlace,
     ) -> Result<Boxed<TypeOf<A, E>>, Error>
         + Copy,
-    G,
-    H: Fn(
+    Bounds,
+    Params: Fn(
         Global,
         PhantomData<GenericParamOf<A, E>>,
         &mut ParseStream<'_>,
         ParamPlace,
     ) -> Result<Boxed<GenericParamOf<A, E>>, Error>
         + Copy,
-    I,
-    J: Fn(
+    Args,
+    Segments: Fn(
         Global,
         PhantomData<PathArgumentsOf<A, E>>,
         &mut ParseStream<'_>,
         (),
     ) -> Result<Boxed<PathArgumentsOf<A, E>>, Error>
         + Copy,
-> Grammar<'a, A, E, F, G, H, I, J> {
+> Grammar<'a, A, E, Types, Bounds, Params, Args, Segments> {
     /// A trait bound after its first binder and its modifiers: `?`, a binder behind it, a path in the style of types and its
     /// signature. A binder and a `?` refuse each other, at the `?`, once the path is read.
     #[tactic(auto, using(token_core::proofs::Suffixes::follows, syn_forms::proofs::nested_laws::Ahead::later), unfolding(crate::specs::generics::Reading::trait_after))]
@@ -549,12 +555,9 @@ impl<
         lifetimes: Option<BoundLifetimesOf<GenericParamOf<A, E>>>,
         modifiers: TraitBoundModifiers,
     ) -> Result<TraitBoundOf<A, E>, Error>
-        requires types { Nests (knot.ty A.reads E.reads) (length self.now.begin)
-            (F.pre self.now.types) (F.post self.now.types) }
-        requires params { Nests (knot.param A.reads E.reads) (length self.now.begin)
-            (H.pre self.now.params) (H.post self.now.params) }
-        requires segments { Nests (knot.arguments_in A.reads E.reads) (length self.now.begin)
-            (J.pre self.now.segments) (J.post self.now.segments) }
+        requires types { knot.Types A.reads E.reads self.now.begin self.now.types Types.pre Types.post }
+        requires params { knot.Params A.reads E.reads self.now.begin self.now.params Params.pre Params.post }
+        requires segments { knot.Segments A.reads E.reads self.now.begin self.now.segments Segments.pre Segments.post }
         requires few { ahead input.old ≤ length self.now.begin }
         ensures parses { Parses
             (reading.trait_after (knot.reads_below A.reads E.reads (length self.now.begin)) lifetimes modifiers)
@@ -574,12 +577,9 @@ impl<
         input: &mut ParseStream<'_>,
         consts: bool,
     ) -> Result<TraitBoundOf<A, E>, Error>
-        requires types { Nests (knot.ty A.reads E.reads) (length self.now.begin)
-            (F.pre self.now.types) (F.post self.now.types) }
-        requires params { Nests (knot.param A.reads E.reads) (length self.now.begin)
-            (H.pre self.now.params) (H.post self.now.params) }
-        requires segments { Nests (knot.arguments_in A.reads E.reads) (length self.now.begin)
-            (J.pre self.now.segments) (J.post self.now.segments) }
+        requires types { knot.Types A.reads E.reads self.now.begin self.now.types Types.pre Types.post }
+        requires params { knot.Params A.reads E.reads self.now.begin self.now.params Params.pre Params.post }
+        requires segments { knot.Segments A.reads E.reads self.now.begin self.now.segments Segments.pre Segments.post }
         requires few { ahead input.old ≤ length self.now.begin }
         ensures parses { Parses (reading.trait_in (knot.reads_below A.reads E.reads (length self.now.begin)) consts)
             result input.old input.new }
@@ -596,12 +596,9 @@ impl<
         input: &mut ParseStream<'_>,
         consts: bool,
     ) -> Result<(Paren, TraitBoundOf<A, E>), Error>
-        requires types { Nests (knot.ty A.reads E.reads) (length self.now.begin)
-            (F.pre self.now.types) (F.post self.now.types) }
-        requires params { Nests (knot.param A.reads E.reads) (length self.now.begin)
-            (H.pre self.now.params) (H.post self.now.params) }
-        requires segments { Nests (knot.arguments_in A.reads E.reads) (length self.now.begin)
-            (J.pre self.now.segments) (J.post self.now.segments) }
+        requires types { knot.Types A.reads E.reads self.now.begin self.now.types Types.pre Types.post }
+        requires params { knot.Params A.reads E.reads self.now.begin self.now.params Params.pre Params.post }
+        requires segments { knot.Segments A.reads E.reads self.now.begin self.now.segments Segments.pre Segments.post }
         requires few { ahead input.old ≤ length self.now.begin }
         ensures parses { Parses
             (groups.in_parens (reading.trait_in (knot.reads_below A.reads E.reads (length self.now.begin)) consts))
@@ -620,12 +617,9 @@ impl<
         input: &mut ParseStream<'_>,
         place: BoundPlace,
     ) -> Result<Boxed<TypeParamBoundOf<A, E>>, Error>
-        requires types { Nests (knot.ty A.reads E.reads) (length self.now.begin)
-            (F.pre self.now.types) (F.post self.now.types) }
-        requires params { Nests (knot.param A.reads E.reads) (length self.now.begin)
-            (H.pre self.now.params) (H.post self.now.params) }
-        requires segments { Nests (knot.arguments_in A.reads E.reads) (length self.now.begin)
-            (J.pre self.now.segments) (J.post self.now.segments) }
+        requires types { knot.Types A.reads E.reads self.now.begin self.now.types Types.pre Types.post }
+        requires params { knot.Params A.reads E.reads self.now.begin self.now.params Params.pre Params.post }
+        requires segments { knot.Segments A.reads E.reads self.now.begin self.now.segments Segments.pre Segments.post }
         requires few { ahead input.old ≤ length self.now.begin }
         ensures parses { Parses
             (reading.trait_in_place (knot.reads_below A.reads E.reads (length self.now.begin)) place)
@@ -654,12 +648,9 @@ impl<
         input: &mut ParseStream<'_>,
         place: BoundPlace,
     ) -> Result<Boxed<TypeParamBoundOf<A, E>>, Error>
-        requires types { Nests (knot.ty A.reads E.reads) (length self.now.begin)
-            (F.pre self.now.types) (F.post self.now.types) }
-        requires params { Nests (knot.param A.reads E.reads) (length self.now.begin)
-            (H.pre self.now.params) (H.post self.now.params) }
-        requires segments { Nests (knot.arguments_in A.reads E.reads) (length self.now.begin)
-            (J.pre self.now.segments) (J.post self.now.segments) }
+        requires types { knot.Types A.reads E.reads self.now.begin self.now.types Types.pre Types.post }
+        requires params { knot.Params A.reads E.reads self.now.begin self.now.params Params.pre Params.post }
+        requires segments { knot.Segments A.reads E.reads self.now.begin self.now.segments Segments.pre Segments.post }
         requires few { ahead input.old ≤ length self.now.begin }
         ensures parses { Parses (reading.bound_step (knot.reads_below A.reads E.reads (length self.now.begin)) place)
             result input.old input.new }
@@ -679,18 +670,18 @@ impl<
     'a,
     A: Attributes,
     E: Value,
-    F: Fn(
+    Types: Fn(
         Global,
         PhantomData<TypeOf<A, E>>,
         &mut ParseStream<'_>,
         TypePlace,
     ) -> Result<Boxed<TypeOf<A, E>>, Error>
         + Copy,
-    G,
-    H,
-    I,
-    J,
-> Grammar<'a, A, E, F, G, H, I, J> {
+    Bounds,
+    Params,
+    Args,
+    Segments,
+> Grammar<'a, A, E, Types, Bounds, Params, Args, Segments> {
     /// A const parameter after its attributes.
     #[tactic(auto, using(token_core::proofs::Suffixes::follows))]
     fn const_after(
@@ -698,8 +689,7 @@ impl<
         input: &mut ParseStream<'_>,
         attrs: Items<A>,
     ) -> Result<ConstParamOf<TypeOf<A, E>, A, E>, Error>
-        requires types { Nests (knot.ty A.reads E.reads) (length self.now.begin)
-            (F.pre self.now.types) (F.post self.now.types) }
+        requires types { knot.Types A.reads E.reads self.now.begin self.now.types Types.pre Types.post }
         requires few { ahead input.old ≤ length self.now.begin }
         ensures parses { Parses
             (reading.const_after A.reads E.reads (knot.reads_below A.reads E.reads (length self.now.begin)) attrs)
@@ -725,24 +715,24 @@ impl<
     'a,
     A: Attributes,
     E: Value,
-    F: Fn(
+    Types: Fn(
         Global,
         PhantomData<TypeOf<A, E>>,
         &mut ParseStream<'_>,
         TypePlace,
     ) -> Result<Boxed<TypeOf<A, E>>, Error>
         + Copy,
-    G: Fn(
+    Bounds: Fn(
         Global,
         PhantomData<TypeParamBoundOf<A, E>>,
         &mut ParseStream<'_>,
         BoundPlace,
     ) -> Result<Boxed<TypeParamBoundOf<A, E>>, Error>
         + Copy,
-    H,
-    I,
-    J,
-> Grammar<'a, A, E, F, G, H, I, J> {
+    Params,
+    Args,
+    Segments,
+> Grammar<'a, A, E, Types, Bounds, Params, Args, Segments> {
     /// A type parameter after its attributes.
     #[tactic(auto, using(token_core::proofs::Suffixes::follows))]
     fn type_after(
@@ -750,10 +740,8 @@ impl<
         input: &mut ParseStream<'_>,
         attrs: Items<A>,
     ) -> Result<TypeParamOf<A, E>, Error>
-        requires types { Nests (knot.ty A.reads E.reads) (length self.now.begin)
-            (F.pre self.now.types) (F.post self.now.types) }
-        requires bounds { Nests (knot.bound A.reads E.reads) (length self.now.begin)
-            (G.pre self.now.bounds) (G.post self.now.bounds) }
+        requires types { knot.Types A.reads E.reads self.now.begin self.now.types Types.pre Types.post }
+        requires bounds { knot.Bounds A.reads E.reads self.now.begin self.now.bounds Bounds.pre Bounds.post }
         requires few { ahead input.old ≤ length self.now.begin }
         ensures parses { Parses
             (reading.type_after A.reads E.reads (knot.reads_below A.reads E.reads (length self.now.begin)) attrs)
@@ -783,10 +771,8 @@ impl<
         input: &mut ParseStream<'_>,
         attrs: Items<A>,
     ) -> Result<Boxed<GenericParamOf<A, E>>, Error>
-        requires types { Nests (knot.ty A.reads E.reads) (length self.now.begin)
-            (F.pre self.now.types) (F.post self.now.types) }
-        requires bounds { Nests (knot.bound A.reads E.reads) (length self.now.begin)
-            (G.pre self.now.bounds) (G.post self.now.bounds) }
+        requires types { knot.Types A.reads E.reads self.now.begin self.now.types Types.pre Types.post }
+        requires bounds { knot.Bounds A.reads E.reads self.now.begin self.now.bounds Bounds.pre Bounds.post }
         requires few { ahead input.old ≤ length self.now.begin }
         ensures parses { Parses
             (reading.in_binder A.reads E.reads (knot.reads_below A.reads E.reads (length self.now.begin)) attrs)
@@ -814,10 +800,8 @@ impl<
         input: &mut ParseStream<'_>,
         attrs: Items<A>,
     ) -> Result<Boxed<GenericParamOf<A, E>>, Error>
-        requires types { Nests (knot.ty A.reads E.reads) (length self.now.begin)
-            (F.pre self.now.types) (F.post self.now.types) }
-        requires bounds { Nests (knot.bound A.reads E.reads) (length self.now.begin)
-            (G.pre self.now.bounds) (G.post self.now.bounds) }
+        requires types { knot.Types A.reads E.reads self.now.begin self.now.types Types.pre Types.post }
+        requires bounds { knot.Bounds A.reads E.reads self.now.begin self.now.bounds Bounds.pre Bounds.post }
         requires few { ahead input.old ≤ length self.now.begin }
         ensures parses { Parses
             (reading.in_generics A.reads E.reads (knot.reads_below A.reads E.reads (length self.now.begin)) attrs)
@@ -848,10 +832,8 @@ impl<
         input: &mut ParseStream<'_>,
         place: ParamPlace,
     ) -> Result<Boxed<GenericParamOf<A, E>>, Error>
-        requires types { Nests (knot.ty A.reads E.reads) (length self.now.begin)
-            (F.pre self.now.types) (F.post self.now.types) }
-        requires bounds { Nests (knot.bound A.reads E.reads) (length self.now.begin)
-            (G.pre self.now.bounds) (G.post self.now.bounds) }
+        requires types { knot.Types A.reads E.reads self.now.begin self.now.types Types.pre Types.post }
+        requires bounds { knot.Bounds A.reads E.reads self.now.begin self.now.bounds Bounds.pre Bounds.post }
         requires few { ahead input.old ≤ length self.now.begin }
         ensures parses { Parses
             (reading.param_step A.reads E.reads (knot.reads_below A.reads E.reads (length self.now.begin)) place)
@@ -1029,7 +1011,7 @@ fn parse_bound<A: Attributes, E: Value>(
 ) -> Result<TypeParamBoundOf<A, E>, Error>
     ensures parses { Parses (knot.bound A.reads E.reads place) result input.old input.new }
 {
-    let bound = TypeParamBoundOf::<A, E>::parse_held(alloc, PhantomData, input, place)?;
+    let bound = read_bound::<A, E>(alloc, PhantomData, input, place)?;
     Ok(bound.into_inner())
 }
 
@@ -1041,7 +1023,7 @@ fn parse_param<A: Attributes, E: Value>(
 ) -> Result<GenericParamOf<A, E>, Error>
     ensures parses { Parses (knot.param A.reads E.reads place) result input.old input.new }
 {
-    let param = GenericParamOf::<A, E>::parse_held(alloc, PhantomData, input, place)?;
+    let param = read_param::<A, E>(alloc, PhantomData, input, place)?;
     Ok(param.into_inner())
 }
 

@@ -8,7 +8,7 @@ ghost use Rattle.std.specs.Prelude.{◌≡◌, ◌<◌, ◌≤◌, length, [], N
 ghost use Rattle.syn_forms.specs.declared.places.BoundPlace.TheVariants as bound_places;
 ghost use Rattle.syn_forms.specs.declared.places.TypePlace.TheVariants as places;
 ghost use Rattle.syn_forms.specs.lists.Reading.{bounds_to};
-ghost use Rattle.syn_forms.specs.nested.Below.{Nests, ahead};
+ghost use Rattle.syn_forms.specs.nested.Below.{ahead};
 ghost use Rattle.syn_path.specs.declared.path.PathStyle.TheVariants as styles;
 ghost use Rattle.syn_path.specs.path.Reading.{sees_sep, sep};
 ghost use Rattle.syn_ty.specs.declared.path.GenericArgumentOf.TheVariants as arguments;
@@ -26,7 +26,8 @@ ghost use Rattle.token_core.specs.Reads.{Fails, Follows, Gives, Parses, Reads, a
 ghost use Rattle.token_core.specs.Tokens as token;
 
 use crate::generics::{GenericParamOf, TypeParamBoundOf};
-use crate::grammar::{Grammar, read_type};
+use crate::grammar::Grammar;
+use crate::knot::{read_argument, read_type};
 use crate::path::{
     AngleBracketedGenericArgumentsOf, AssocConstOf, AssocTypeOf, ConstraintOf, GenericArgumentOf,
     ParenthesizedGenericArgumentsOf, PathArgumentsOf,
@@ -36,7 +37,6 @@ use std::alloc::Global;
 use std::marker::PhantomData;
 use syn_forms::forms;
 use syn_forms::lists::{End, Make};
-use syn_forms::nested::Held;
 use syn_forms::paths::{last_arguments, with_last_arguments};
 use syn_forms::places::{BoundPlace, ParamPlace, TypePlace};
 use syn_forms::tokens::{parse_any_lifetime, parse_colon, parse_eq, parse_plus};
@@ -359,18 +359,18 @@ impl<
     'a,
     A: Attributes,
     E: Value,
-    F,
-    G,
-    H,
-    I: Fn(
+    Types,
+    Bounds,
+    Params,
+    Args: Fn(
         Global,
         PhantomData<GenericArgumentOf<A, E>>,
         &mut ParseStream<'_>,
         (),
     ) -> Result<Boxed<GenericArgumentOf<A, E>>, Error>
         + Copy,
-    J,
-> Grammar<'a, A, E, F, G, H, I, J> {
+    Segments,
+> Grammar<'a, A, E, Types, Bounds, Params, Args, Segments> {
     // ---- arguments in angle brackets
 
     /// Arguments in angle brackets, after a `::` that may have been there: `<'a, T>`.
@@ -380,8 +380,7 @@ impl<
         input: &mut ParseStream<'_>,
         colon2_token: Option<PathSep>,
     ) -> Result<AngleBracketedGenericArgumentsOf<GenericArgumentOf<A, E>>, Error>
-        requires args { Nests (knot.argument_in A.reads E.reads) (length self.now.begin)
-            (I.pre self.now.args) (I.post self.now.args) }
+        requires args { knot.Args A.reads E.reads self.now.begin self.now.args Args.pre Args.post }
         requires few { ahead input.old ≤ length self.now.begin }
         ensures parses { Parses
             (reading.arguments_after (knot.reads_below A.reads E.reads (length self.now.begin)) colon2_token)
@@ -402,8 +401,7 @@ impl<
         &self,
         input: &mut ParseStream<'_>,
     ) -> Result<AngleBracketedGenericArgumentsOf<GenericArgumentOf<A, E>>, Error>
-        requires args { Nests (knot.argument_in A.reads E.reads) (length self.now.begin)
-            (I.pre self.now.args) (I.post self.now.args) }
+        requires args { knot.Args A.reads E.reads self.now.begin self.now.args Args.pre Args.post }
         requires few { ahead input.old ≤ length self.now.begin }
         ensures parses { Parses (reading.angle_bracketed (knot.reads_below A.reads E.reads (length self.now.begin)))
             result input.old input.new }
@@ -418,8 +416,7 @@ impl<
         &self,
         input: &mut ParseStream<'_>,
     ) -> Result<Boxed<PathArgumentsOf<A, E>>, Error>
-        requires args { Nests (knot.argument_in A.reads E.reads) (length self.now.begin)
-            (I.pre self.now.args) (I.post self.now.args) }
+        requires args { knot.Args A.reads E.reads self.now.begin self.now.args Args.pre Args.post }
         requires few { ahead input.old ≤ length self.now.begin }
         ensures parses { Parses (reading.arguments_step (knot.reads_below A.reads E.reads (length self.now.begin)))
             result input.old input.new }
@@ -436,18 +433,18 @@ impl<
     'a,
     A: Attributes,
     E: Value,
-    F,
-    G,
-    H,
-    I,
-    J: Fn(
+    Types,
+    Bounds,
+    Params,
+    Args,
+    Segments: Fn(
         Global,
         PhantomData<PathArgumentsOf<A, E>>,
         &mut ParseStream<'_>,
         (),
     ) -> Result<Boxed<PathArgumentsOf<A, E>>, Error>
         + Copy,
-> Grammar<'a, A, E, F, G, H, I, J> {
+> Grammar<'a, A, E, Types, Bounds, Params, Args, Segments> {
     // ---- paths
 
     /// A path, in this style.
@@ -457,8 +454,7 @@ impl<
         input: &mut ParseStream<'_>,
         style: PathStyle,
     ) -> Result<PathOf<PathArgumentsOf<A, E>>, Error>
-        requires segments { Nests (knot.arguments_in A.reads E.reads) (length self.now.begin)
-            (J.pre self.now.segments) (J.post self.now.segments) }
+        requires segments { knot.Segments A.reads E.reads self.now.begin self.now.segments Segments.pre Segments.post }
         requires few { ahead input.old ≤ length self.now.begin }
         ensures parses { Parses (reading.path (knot.reads_below A.reads E.reads (length self.now.begin)) style)
             result input.old input.new }
@@ -473,8 +469,7 @@ impl<
         input: &mut ParseStream<'_>,
         path: PathOf<PathArgumentsOf<A, E>>,
     ) -> Result<PathOf<PathArgumentsOf<A, E>>, Error>
-        requires segments { Nests (knot.arguments_in A.reads E.reads) (length self.now.begin)
-            (J.pre self.now.segments) (J.post self.now.segments) }
+        requires segments { knot.Segments A.reads E.reads self.now.begin self.now.segments Segments.pre Segments.post }
         requires few { ahead input.old ≤ length self.now.begin }
         ensures parses { Parses (reading.rest (knot.reads_below A.reads E.reads (length self.now.begin)) path)
             result input.old input.new }
@@ -487,24 +482,24 @@ impl<
     'a,
     A: Attributes,
     E: Value,
-    F: Fn(
+    Types: Fn(
         Global,
         PhantomData<TypeOf<A, E>>,
         &mut ParseStream<'_>,
         TypePlace,
     ) -> Result<Boxed<TypeOf<A, E>>, Error>
         + Copy,
-    G,
-    H,
-    I,
-    J: Fn(
+    Bounds,
+    Params,
+    Args,
+    Segments: Fn(
         Global,
         PhantomData<PathArgumentsOf<A, E>>,
         &mut ParseStream<'_>,
         (),
     ) -> Result<Boxed<PathArgumentsOf<A, E>>, Error>
         + Copy,
-> Grammar<'a, A, E, F, G, H, I, J> {
+> Grammar<'a, A, E, Types, Bounds, Params, Args, Segments> {
     /// A path, in this style, that a type in `<..>` may qualify.
     #[tactic(auto, using(token_core::proofs::Suffixes::follows))]
     pub fn maybe_qualified(
@@ -512,10 +507,8 @@ impl<
         input: &mut ParseStream<'_>,
         style: PathStyle,
     ) -> Result<(Option<QSelfOf<TypeOf<A, E>>>, PathOf<PathArgumentsOf<A, E>>), Error>
-        requires types { Nests (knot.ty A.reads E.reads) (length self.now.begin)
-            (F.pre self.now.types) (F.post self.now.types) }
-        requires segments { Nests (knot.arguments_in A.reads E.reads) (length self.now.begin)
-            (J.pre self.now.segments) (J.post self.now.segments) }
+        requires types { knot.Types A.reads E.reads self.now.begin self.now.types Types.pre Types.post }
+        requires segments { knot.Segments A.reads E.reads self.now.begin self.now.segments Segments.pre Segments.post }
         requires few { ahead input.old ≤ length self.now.begin }
         ensures parses { Parses
             (reading.maybe_qualified (knot.reads_below A.reads E.reads (length self.now.begin)) style)
@@ -530,18 +523,18 @@ impl<
     'a,
     A: Attributes,
     E: Value,
-    F: Fn(
+    Types: Fn(
         Global,
         PhantomData<TypeOf<A, E>>,
         &mut ParseStream<'_>,
         TypePlace,
     ) -> Result<Boxed<TypeOf<A, E>>, Error>
         + Copy,
-    G,
-    H,
-    I,
-    J,
-> Grammar<'a, A, E, F, G, H, I, J> {
+    Bounds,
+    Params,
+    Args,
+    Segments,
+> Grammar<'a, A, E, Types, Bounds, Params, Args, Segments> {
     // ---- signatures of traits
 
     /// Arguments in parentheses and their output: `(A, B) -> C`. The output is read without plus.
@@ -550,8 +543,7 @@ impl<
         &self,
         input: &mut ParseStream<'_>,
     ) -> Result<ParenthesizedGenericArgumentsOf<TypeOf<A, E>, A>, Error>
-        requires types { Nests (knot.ty A.reads E.reads) (length self.now.begin)
-            (F.pre self.now.types) (F.post self.now.types) }
+        requires types { knot.Types A.reads E.reads self.now.begin self.now.types Types.pre Types.post }
         requires few { ahead input.old ≤ length self.now.begin }
         ensures parses { Parses (reading.parenthesized (knot.reads_below A.reads E.reads (length self.now.begin)))
             result input.old input.new }
@@ -572,8 +564,7 @@ impl<
         &self,
         input: &mut ParseStream<'_>,
     ) -> Result<ParenthesizedGenericArgumentsOf<TypeOf<A, E>, A>, Error>
-        requires types { Nests (knot.ty A.reads E.reads) (length self.now.begin)
-            (F.pre self.now.types) (F.post self.now.types) }
+        requires types { knot.Types A.reads E.reads self.now.begin self.now.types Types.pre Types.post }
         requires few { ahead input.old ≤ length self.now.begin }
         ensures parses { Parses (λ s. and_then (optional sees_sep sep s)
             (λ c. reading.parenthesized (knot.reads_below A.reads E.reads (length self.now.begin))))
@@ -591,8 +582,7 @@ impl<
         input: &mut ParseStream<'_>,
         path: PathOf<PathArgumentsOf<A, E>>,
     ) -> Result<PathOf<PathArgumentsOf<A, E>>, Error>
-        requires types { Nests (knot.ty A.reads E.reads) (length self.now.begin)
-            (F.pre self.now.types) (F.post self.now.types) }
+        requires types { knot.Types A.reads E.reads self.now.begin self.now.types Types.pre Types.post }
         requires few { ahead input.old ≤ length self.now.begin }
         ensures parses { Parses (reading.signed (knot.reads_below A.reads E.reads (length self.now.begin)) path)
             result input.old input.new }
@@ -615,8 +605,7 @@ impl<
         item: Item<A, E>,
         eq_token: Eq,
     ) -> Result<Boxed<GenericArgumentOf<A, E>>, Error>
-        requires types { Nests (knot.ty A.reads E.reads) (length self.now.begin)
-            (F.pre self.now.types) (F.post self.now.types) }
+        requires types { knot.Types A.reads E.reads self.now.begin self.now.types Types.pre Types.post }
         requires few { ahead input.old < length self.now.begin }
         ensures parses { Parses
             (reading.assoc E.reads (knot.reads_below A.reads E.reads (length self.now.begin)) item.0 item.1 eq_token)
@@ -639,25 +628,24 @@ impl<
     'a,
     A: Attributes,
     E: Value,
-    F,
-    G: Fn(
+    Types,
+    Bounds: Fn(
         Global,
         PhantomData<TypeParamBoundOf<A, E>>,
         &mut ParseStream<'_>,
         BoundPlace,
     ) -> Result<Boxed<TypeParamBoundOf<A, E>>, Error>
         + Copy,
-    H,
-    I,
-    J,
-> Grammar<'a, A, E, F, G, H, I, J> {
+    Params,
+    Args,
+    Segments,
+> Grammar<'a, A, E, Types, Bounds, Params, Args, Segments> {
     /// Bounds up to `,` or `>`. There may be none.
     fn constraint_bounds(
         &self,
         input: &mut ParseStream<'_>,
     ) -> Result<Punctuated<TypeParamBoundOf<A, E>, Plus>, Error>
-        requires bounds { Nests (knot.bound A.reads E.reads) (length self.now.begin)
-            (G.pre self.now.bounds) (G.post self.now.bounds) }
+        requires bounds { knot.Bounds A.reads E.reads self.now.begin self.now.bounds Bounds.pre Bounds.post }
         requires few { ahead input.old < length self.now.begin }
         ensures parses { Parses
             (bounds_to (knot.reads_below A.reads E.reads (length self.now.begin) (a_bound bound_places.Parameter))
@@ -676,8 +664,7 @@ impl<
         item: Item<A, E>,
         colon_token: Colon,
     ) -> Result<Boxed<GenericArgumentOf<A, E>>, Error>
-        requires bounds { Nests (knot.bound A.reads E.reads) (length self.now.begin)
-            (G.pre self.now.bounds) (G.post self.now.bounds) }
+        requires bounds { knot.Bounds A.reads E.reads self.now.begin self.now.bounds Bounds.pre Bounds.post }
         requires few { ahead input.old < length self.now.begin }
         ensures parses { Parses (reading.constraint E.reads
             (knot.reads_below A.reads E.reads (length self.now.begin)) item.0 item.1 colon_token)
@@ -692,24 +679,24 @@ impl<
     'a,
     A: Attributes,
     E: Value,
-    F: Fn(
+    Types: Fn(
         Global,
         PhantomData<TypeOf<A, E>>,
         &mut ParseStream<'_>,
         TypePlace,
     ) -> Result<Boxed<TypeOf<A, E>>, Error>
         + Copy,
-    G: Fn(
+    Bounds: Fn(
         Global,
         PhantomData<TypeParamBoundOf<A, E>>,
         &mut ParseStream<'_>,
         BoundPlace,
     ) -> Result<Boxed<TypeParamBoundOf<A, E>>, Error>
         + Copy,
-    H,
-    I,
-    J,
-> Grammar<'a, A, E, F, G, H, I, J> {
+    Params,
+    Args,
+    Segments,
+> Grammar<'a, A, E, Types, Bounds, Params, Args, Segments> {
     /// What begins with a type that was read: the type itself, or what is said of the associated item that it names.
     #[tactic(auto, using(token_core::proofs::Suffixes::follows, crate::proofs::path_laws::Items::nameless_types), unfolding(crate::specs::path::Reading::after_item))]
     #[inline(never)]
@@ -718,10 +705,8 @@ impl<
         input: &mut ParseStream<'_>,
         ty: Boxed<TypeOf<A, E>>,
     ) -> Result<Boxed<GenericArgumentOf<A, E>>, Error>
-        requires types { Nests (knot.ty A.reads E.reads) (length self.now.begin)
-            (F.pre self.now.types) (F.post self.now.types) }
-        requires bounds { Nests (knot.bound A.reads E.reads) (length self.now.begin)
-            (G.pre self.now.bounds) (G.post self.now.bounds) }
+        requires types { knot.Types A.reads E.reads self.now.begin self.now.types Types.pre Types.post }
+        requires bounds { knot.Bounds A.reads E.reads self.now.begin self.now.bounds Bounds.pre Bounds.post }
         requires few { ahead input.old ≤ length self.now.begin }
         ensures parses { Parses (reading.after_type E.reads
             (knot.reads_below A.reads E.reads (length self.now.begin)) ty (reading.item_of ty))
@@ -757,42 +742,42 @@ impl<
     'a,
     A: Attributes,
     E: Value,
-    F: Fn(
+    Types: Fn(
         Global,
         PhantomData<TypeOf<A, E>>,
         &mut ParseStream<'_>,
         TypePlace,
     ) -> Result<Boxed<TypeOf<A, E>>, Error>
         + Copy,
-    G: Fn(
+    Bounds: Fn(
         Global,
         PhantomData<TypeParamBoundOf<A, E>>,
         &mut ParseStream<'_>,
         BoundPlace,
     ) -> Result<Boxed<TypeParamBoundOf<A, E>>, Error>
         + Copy,
-    H: Fn(
+    Params: Fn(
         Global,
         PhantomData<GenericParamOf<A, E>>,
         &mut ParseStream<'_>,
         ParamPlace,
     ) -> Result<Boxed<GenericParamOf<A, E>>, Error>
         + Copy,
-    I: Fn(
+    Args: Fn(
         Global,
         PhantomData<GenericArgumentOf<A, E>>,
         &mut ParseStream<'_>,
         (),
     ) -> Result<Boxed<GenericArgumentOf<A, E>>, Error>
         + Copy,
-    J: Fn(
+    Segments: Fn(
         Global,
         PhantomData<PathArgumentsOf<A, E>>,
         &mut ParseStream<'_>,
         (),
     ) -> Result<Boxed<PathArgumentsOf<A, E>>, Error>
         + Copy,
-> Grammar<'a, A, E, F, G, H, I, J> {
+> Grammar<'a, A, E, Types, Bounds, Params, Args, Segments> {
     /// One turn: an argument in angle brackets. It is a lifetime that no `+` follows, a constant where a literal or braces
     /// stand, or begins with a type (syn's `GenericArgument::parse`).
     #[tactic(auto, using(token_core::proofs::Suffixes::follows, syn_forms::proofs::nested_laws::Ahead::later), unfolding(crate::specs::path::Reading::argument_step))]
@@ -801,16 +786,11 @@ impl<
         &self,
         input: &mut ParseStream<'_>,
     ) -> Result<Boxed<GenericArgumentOf<A, E>>, Error>
-        requires types { Nests (knot.ty A.reads E.reads) (length self.now.begin)
-            (F.pre self.now.types) (F.post self.now.types) }
-        requires bounds { Nests (knot.bound A.reads E.reads) (length self.now.begin)
-            (G.pre self.now.bounds) (G.post self.now.bounds) }
-        requires params { Nests (knot.param A.reads E.reads) (length self.now.begin)
-            (H.pre self.now.params) (H.post self.now.params) }
-        requires args { Nests (knot.argument_in A.reads E.reads) (length self.now.begin)
-            (I.pre self.now.args) (I.post self.now.args) }
-        requires segments { Nests (knot.arguments_in A.reads E.reads) (length self.now.begin)
-            (J.pre self.now.segments) (J.post self.now.segments) }
+        requires types { knot.Types A.reads E.reads self.now.begin self.now.types Types.pre Types.post }
+        requires bounds { knot.Bounds A.reads E.reads self.now.begin self.now.bounds Bounds.pre Bounds.post }
+        requires params { knot.Params A.reads E.reads self.now.begin self.now.params Params.pre Params.post }
+        requires args { knot.Args A.reads E.reads self.now.begin self.now.args Args.pre Args.post }
+        requires segments { knot.Segments A.reads E.reads self.now.begin self.now.segments Segments.pre Segments.post }
         requires few { ahead input.old ≤ length self.now.begin }
         ensures parses { Parses
             (reading.argument_step E.reads (knot.reads_below A.reads E.reads (length self.now.begin))
@@ -1007,12 +987,7 @@ fn parse_argument<A: Attributes, E: Value>(
 ) -> Result<GenericArgumentOf<A, E>, Error>
     ensures parses { Parses (knot.argument A.reads E.reads) result input.old input.new }
 {
-    let argument = <GenericArgumentOf<A, E> as Held<()>>::parse_held(
-        alloc,
-        PhantomData,
-        input,
-        (),
-    )?;
+    let argument = read_argument::<A, E>(alloc, PhantomData, input, ())?;
     Ok(argument.into_inner())
 }
 

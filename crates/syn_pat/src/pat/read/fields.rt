@@ -1,7 +1,7 @@
 //! The fields of a struct's pattern.
 
 ghost use Rattle.std.specs.Prelude.{◌≡◌, ◌<◌, length, None};
-ghost use Rattle.syn_forms.specs.nested.Below.{Nests, ahead};
+ghost use Rattle.syn_forms.specs.nested.Below.{ahead};
 ghost use Rattle.syn_forms.specs.verbatim.Reading as verbatim;
 ghost use Rattle.syn_pat.specs.pat.Knot as knot;
 ghost use Rattle.syn_pat.specs.pat.Reading as reading;
@@ -118,8 +118,7 @@ impl<
         attrs: Items<Attribute<X>>,
         member: Member,
     ) -> Result<FieldOver<X, G, Q, T>, Error>
-        requires patterns { Nests (knot.pat X.reads (named Q.reads G.is_absent)) (length self.now.begin)
-            (F.pre self.now.patterns) (F.post self.now.patterns) }
+        requires patterns { knot.Pats X.reads (named Q.reads G.is_absent) self.now.begin self.now.patterns F.pre F.post }
         requires few { ahead input.old < length self.now.begin }
         ensures parses { Parses (reading.member_field
             (knot.pats_below X.reads (named Q.reads G.is_absent) (length self.now.begin)) attrs member)
@@ -144,8 +143,7 @@ impl<
         attrs: Items<Attribute<X>>,
         member: Member,
     ) -> Result<FieldOver<X, G, Q, T>, Error>
-        requires patterns { Nests (knot.pat X.reads (named Q.reads G.is_absent)) (length self.now.begin)
-            (F.pre self.now.patterns) (F.post self.now.patterns) }
+        requires patterns { knot.Pats X.reads (named Q.reads G.is_absent) self.now.begin self.now.patterns F.pre F.post }
         requires few { ahead input.old < length self.now.begin }
         requires reached { IsReached (verbatim.position input.old) from.now }
         ensures parses { Parses (reading.plain_field
@@ -170,8 +168,7 @@ impl<
         input: &mut ParseStream<'_>,
         attrs: Items<Attribute<X>>,
     ) -> Result<FieldOver<X, G, Q, T>, Error>
-        requires patterns { Nests (knot.pat X.reads (named Q.reads G.is_absent)) (length self.now.begin)
-            (F.pre self.now.patterns) (F.post self.now.patterns) }
+        requires patterns { knot.Pats X.reads (named Q.reads G.is_absent) self.now.begin self.now.patterns F.pre F.post }
         requires few { ahead input.old < length self.now.begin }
         ensures parses { Parses
             (reading.field (knot.pats_below X.reads (named Q.reads G.is_absent) (length self.now.begin)) attrs)
@@ -191,8 +188,7 @@ impl<
     /// follow the last. A `..` ends them, with its attributes, and nothing is read after it.
     #[tactic(auto, using(token_core::proofs::Suffixes::follows))]
     pub(crate) fn fields(&self, input: &mut ParseStream<'_>) -> Result<Fields<X, G, Q, T>, Error>
-        requires patterns { Nests (knot.pat X.reads (named Q.reads G.is_absent)) (length self.now.begin)
-            (F.pre self.now.patterns) (F.post self.now.patterns) }
+        requires patterns { knot.Pats X.reads (named Q.reads G.is_absent) self.now.begin self.now.patterns F.pre F.post }
         requires few { ahead input.old < length self.now.begin }
         ensures parses { Parses
             (reading.fields X.reads (knot.pats_below X.reads (named Q.reads G.is_absent) (length self.now.begin)))

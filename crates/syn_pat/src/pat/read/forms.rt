@@ -1,7 +1,7 @@
 //! Bindings, references, and patterns held as they were written.
 
 ghost use Rattle.std.specs.Prelude.{◌<◌, ◌≤◌, length, IfOk};
-ghost use Rattle.syn_forms.specs.nested.Below.{Nests, ahead};
+ghost use Rattle.syn_forms.specs.nested.Below.{ahead};
 ghost use Rattle.syn_pat.specs.pat.Knot as knot;
 ghost use Rattle.syn_pat.specs.pat.Reading as reading;
 ghost use Rattle.syn_pat.specs.pat.Reading.{named};
@@ -83,8 +83,7 @@ impl<
         &self,
         input: &mut ParseStream<'_>,
     ) -> Result<Option<(At, Boxed<PatOver<X, G, Q, T>>)>, Error>
-        requires patterns { Nests (knot.pat X.reads (named Q.reads G.is_absent)) (length self.now.begin)
-            (F.pre self.now.patterns) (F.post self.now.patterns) }
+        requires patterns { knot.Pats X.reads (named Q.reads G.is_absent) self.now.begin self.now.patterns F.pre F.post }
         requires few { ahead input.old ≤ length self.now.begin }
         ensures parses { Parses
             (reading.optional_subpat (knot.pats_below X.reads (named Q.reads G.is_absent) (length self.now.begin)))
@@ -104,8 +103,7 @@ impl<
         &self,
         input: &mut ParseStream<'_>,
     ) -> Result<IdentOver<X, G, Q, T>, Error>
-        requires patterns { Nests (knot.pat X.reads (named Q.reads G.is_absent)) (length self.now.begin)
-            (F.pre self.now.patterns) (F.post self.now.patterns) }
+        requires patterns { knot.Pats X.reads (named Q.reads G.is_absent) self.now.begin self.now.patterns F.pre F.post }
         requires few { ahead input.old ≤ length self.now.begin }
         ensures parses { Parses
             (reading.binding (knot.pats_below X.reads (named Q.reads G.is_absent) (length self.now.begin)))
@@ -128,8 +126,7 @@ impl<
         &self,
         input: &mut ParseStream<'_>,
     ) -> Result<ReferenceOver<X, G, Q, T>, Error>
-        requires patterns { Nests (knot.pat X.reads (named Q.reads G.is_absent)) (length self.now.begin)
-            (F.pre self.now.patterns) (F.post self.now.patterns) }
+        requires patterns { knot.Pats X.reads (named Q.reads G.is_absent) self.now.begin self.now.patterns F.pre F.post }
         requires few { ahead input.old ≤ length self.now.begin }
         ensures parses { Parses
             (reading.reference (knot.pats_below X.reads (named Q.reads G.is_absent) (length self.now.begin)))
@@ -149,8 +146,7 @@ impl<
     /// `box a`, held as it was written (syn's `pat_box`).
     #[tactic(auto, using(token_core::proofs::Suffixes::follows, syn_forms::proofs::nested_laws::Ahead::later, token_core::proofs::Places::positions), unfolding(crate::specs::pat::Reading::box_pat))]
     pub(crate) fn box_pat(&self, input: &mut ParseStream<'_>) -> Result<PatOver<X, G, Q, T>, Error>
-        requires patterns { Nests (knot.pat X.reads (named Q.reads G.is_absent)) (length self.now.begin)
-            (F.pre self.now.patterns) (F.post self.now.patterns) }
+        requires patterns { knot.Pats X.reads (named Q.reads G.is_absent) self.now.begin self.now.patterns F.pre F.post }
         requires few { ahead input.old ≤ length self.now.begin }
         ensures parses { Parses
             (reading.box_pat (knot.pats_below X.reads (named Q.reads G.is_absent) (length self.now.begin)))

@@ -2,7 +2,7 @@
 
 ghost use Rattle.std.specs.Prelude.{◌≡◌, ◌<◌, ◌≤◌, length, Bool};
 ghost use Rattle.syn_forms.specs.groups.Reading.{in_brackets, in_parens};
-ghost use Rattle.syn_forms.specs.nested.Below.{Nests, ahead};
+ghost use Rattle.syn_forms.specs.nested.Below.{ahead};
 ghost use Rattle.syn_pat.specs.declared.place.PatPlace.TheVariants.{Element, LeadingVert};
 ghost use Rattle.syn_pat.specs.pat.Knot as knot;
 ghost use Rattle.syn_pat.specs.pat.Reading as reading;
@@ -74,8 +74,7 @@ impl<
         input: &mut ParseStream<'_>,
         place: PatPlace,
     ) -> Result<Punctuated<PatOver<X, G, Q, T>, Comma>, Error>
-        requires patterns { Nests (knot.pat X.reads (named Q.reads G.is_absent)) (length self.now.begin)
-            (F.pre self.now.patterns) (F.post self.now.patterns) }
+        requires patterns { knot.Pats X.reads (named Q.reads G.is_absent) self.now.begin self.now.patterns F.pre F.post }
         requires few { ahead input.old < length self.now.begin }
         ensures parses { Parses
             (reading.elements (knot.pats_below X.reads (named Q.reads G.is_absent) (length self.now.begin)) place)
@@ -90,8 +89,7 @@ impl<
         &self,
         input: &mut ParseStream<'_>,
     ) -> Result<(Paren, Punctuated<PatOver<X, G, Q, T>, Comma>), Error>
-        requires patterns { Nests (knot.pat X.reads (named Q.reads G.is_absent)) (length self.now.begin)
-            (F.pre self.now.patterns) (F.post self.now.patterns) }
+        requires patterns { knot.Pats X.reads (named Q.reads G.is_absent) self.now.begin self.now.patterns F.pre F.post }
         requires few { ahead input.old ≤ length self.now.begin }
         ensures parses { Parses (in_parens (reading.elements
             (knot.pats_below X.reads (named Q.reads G.is_absent) (length self.now.begin)) LeadingVert))
@@ -106,8 +104,7 @@ impl<
     /// `[a, b, ..]` (syn's `pat_slice`).
     #[tactic(auto, using(token_core::proofs::Suffixes::follows, syn_forms::proofs::nested_laws::Ahead::later), unfolding(crate::specs::pat::Reading::slice))]
     pub(crate) fn slice(&self, input: &mut ParseStream<'_>) -> Result<SliceOver<X, G, Q, T>, Error>
-        requires patterns { Nests (knot.pat X.reads (named Q.reads G.is_absent)) (length self.now.begin)
-            (F.pre self.now.patterns) (F.post self.now.patterns) }
+        requires patterns { knot.Pats X.reads (named Q.reads G.is_absent) self.now.begin self.now.patterns F.pre F.post }
         requires few { ahead input.old ≤ length self.now.begin }
         ensures parses { Parses
             (reading.slice (knot.pats_below X.reads (named Q.reads G.is_absent) (length self.now.begin)))
@@ -129,8 +126,7 @@ impl<
         &self,
         input: &mut ParseStream<'_>,
     ) -> Result<InParens<PatOver<X, G, Q, T>>, Error>
-        requires patterns { Nests (knot.pat X.reads (named Q.reads G.is_absent)) (length self.now.begin)
-            (F.pre self.now.patterns) (F.post self.now.patterns) }
+        requires patterns { knot.Pats X.reads (named Q.reads G.is_absent) self.now.begin self.now.patterns F.pre F.post }
         requires few { ahead input.old < length self.now.begin }
         ensures parses { Parses
             (reading.paren_content (knot.pats_below X.reads (named Q.reads G.is_absent) (length self.now.begin)))
@@ -155,8 +151,7 @@ impl<
         &self,
         input: &mut ParseStream<'_>,
     ) -> Result<PatOver<X, G, Q, T>, Error>
-        requires patterns { Nests (knot.pat X.reads (named Q.reads G.is_absent)) (length self.now.begin)
-            (F.pre self.now.patterns) (F.post self.now.patterns) }
+        requires patterns { knot.Pats X.reads (named Q.reads G.is_absent) self.now.begin self.now.patterns F.pre F.post }
         requires few { ahead input.old ≤ length self.now.begin }
         ensures parses { Parses
             (reading.paren_or_tuple (knot.pats_below X.reads (named Q.reads G.is_absent) (length self.now.begin)))

@@ -1,7 +1,7 @@
 //! Patterns that begin with a path.
 
 ghost use Rattle.std.specs.Prelude.{◌<◌, ◌≤◌, length};
-ghost use Rattle.syn_forms.specs.nested.Below.{Nests, ahead};
+ghost use Rattle.syn_forms.specs.nested.Below.{ahead};
 ghost use Rattle.syn_pat.specs.pat.Knot as knot;
 ghost use Rattle.syn_pat.specs.pat.Reading as reading;
 ghost use Rattle.syn_pat.specs.pat.Reading.{named};
@@ -64,8 +64,7 @@ impl<
         qself: Option<Q>,
         path: PathOf<G>,
     ) -> Result<StructOver<X, G, Q, T>, Error>
-        requires patterns { Nests (knot.pat X.reads (named Q.reads G.is_absent)) (length self.now.begin)
-            (F.pre self.now.patterns) (F.post self.now.patterns) }
+        requires patterns { knot.Pats X.reads (named Q.reads G.is_absent) self.now.begin self.now.patterns F.pre F.post }
         requires few { ahead input.old ≤ length self.now.begin }
         ensures parses { Parses (reading.struct_after X.reads
             (knot.pats_below X.reads (named Q.reads G.is_absent) (length self.now.begin)) qself path)
@@ -92,8 +91,7 @@ impl<
         qself: Option<Q>,
         path: PathOf<G>,
     ) -> Result<TupleStructOver<X, G, Q, T>, Error>
-        requires patterns { Nests (knot.pat X.reads (named Q.reads G.is_absent)) (length self.now.begin)
-            (F.pre self.now.patterns) (F.post self.now.patterns) }
+        requires patterns { knot.Pats X.reads (named Q.reads G.is_absent) self.now.begin self.now.patterns F.pre F.post }
         requires few { ahead input.old ≤ length self.now.begin }
         ensures parses { Parses (reading.tuple_struct_after
             (knot.pats_below X.reads (named Q.reads G.is_absent) (length self.now.begin)) qself path)
@@ -117,8 +115,7 @@ impl<
         qself: Option<Q>,
         path: PathOf<G>,
     ) -> Result<PatOver<X, G, Q, T>, Error>
-        requires patterns { Nests (knot.pat X.reads (named Q.reads G.is_absent)) (length self.now.begin)
-            (F.pre self.now.patterns) (F.post self.now.patterns) }
+        requires patterns { knot.Pats X.reads (named Q.reads G.is_absent) self.now.begin self.now.patterns F.pre F.post }
         requires few { ahead input.old ≤ length self.now.begin }
         ensures parses { Parses (reading.after_path X.reads (named Q.reads G.is_absent)
             (knot.pats_below X.reads (named Q.reads G.is_absent) (length self.now.begin)) qself path)
@@ -140,8 +137,7 @@ impl<
     /// A pattern that begins with a path (syn's `pat_path_or_macro_or_struct_or_range`).
     #[tactic(auto, using(token_core::proofs::Suffixes::follows, syn_forms::proofs::nested_laws::Ahead::later), unfolding(crate::specs::pat::Reading::path_pat))]
     pub(crate) fn path_pat(&self, input: &mut ParseStream<'_>) -> Result<PatOver<X, G, Q, T>, Error>
-        requires patterns { Nests (knot.pat X.reads (named Q.reads G.is_absent)) (length self.now.begin)
-            (F.pre self.now.patterns) (F.post self.now.patterns) }
+        requires patterns { knot.Pats X.reads (named Q.reads G.is_absent) self.now.begin self.now.patterns F.pre F.post }
         requires few { ahead input.old ≤ length self.now.begin }
         ensures parses { Parses (reading.path_pat X.reads
             (named Q.reads G.is_absent) (knot.pats_below X.reads (named Q.reads G.is_absent) (length self.now.begin)))

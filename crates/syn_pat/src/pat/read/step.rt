@@ -1,7 +1,7 @@
 //! One turn of the reader of patterns.
 
 ghost use Rattle.std.specs.Prelude.{◌≡◌, ◌<◌, ◌≤◌, length, false, None};
-ghost use Rattle.syn_forms.specs.nested.Below.{Nests, ahead};
+ghost use Rattle.syn_forms.specs.nested.Below.{ahead};
 ghost use Rattle.syn_pat.specs.pat.Knot as knot;
 ghost use Rattle.syn_pat.specs.pat.Reading as reading;
 ghost use Rattle.syn_pat.specs.pat.Reading.{named};
@@ -130,8 +130,7 @@ impl<
     /// A pattern that begins with a mark or a group.
     #[tactic(auto, using(token_core::proofs::Suffixes::follows, syn_forms::proofs::nested_laws::Ahead::later), unfolding(crate::specs::pat::Reading::by_mark))]
     fn by_mark(&self, input: &mut ParseStream<'_>) -> Result<PatOver<X, G, Q, T>, Error>
-        requires patterns { Nests (knot.pat X.reads (named Q.reads G.is_absent)) (length self.now.begin)
-            (F.pre self.now.patterns) (F.post self.now.patterns) }
+        requires patterns { knot.Pats X.reads (named Q.reads G.is_absent) self.now.begin self.now.patterns F.pre F.post }
         requires few { ahead input.old ≤ length self.now.begin }
         ensures parses { Parses (reading.by_mark X.reads
             (named Q.reads G.is_absent) (knot.pats_below X.reads (named Q.reads G.is_absent) (length self.now.begin)))
@@ -155,8 +154,7 @@ impl<
     /// A pattern that begins with a word other than a path, with a literal, or as `by_mark` reads it.
     #[tactic(auto, using(token_core::proofs::Suffixes::follows, syn_forms::proofs::nested_laws::Ahead::later), unfolding(crate::specs::pat::Reading::by_word))]
     fn by_word(&self, input: &mut ParseStream<'_>) -> Result<PatOver<X, G, Q, T>, Error>
-        requires patterns { Nests (knot.pat X.reads (named Q.reads G.is_absent)) (length self.now.begin)
-            (F.pre self.now.patterns) (F.post self.now.patterns) }
+        requires patterns { knot.Pats X.reads (named Q.reads G.is_absent) self.now.begin self.now.patterns F.pre F.post }
         requires few { ahead input.old ≤ length self.now.begin }
         ensures parses { Parses (reading.by_word X.reads
             (named Q.reads G.is_absent) (knot.pats_below X.reads (named Q.reads G.is_absent) (length self.now.begin)))
@@ -180,8 +178,7 @@ impl<
     /// One pattern, by its first tokens (syn's `PatOf::parse_single`).
     #[tactic(auto, using(token_core::proofs::Suffixes::follows), unfolding(crate::specs::pat::Reading::single))]
     fn single(&self, input: &mut ParseStream<'_>) -> Result<Boxed<PatOver<X, G, Q, T>>, Error>
-        requires patterns { Nests (knot.pat X.reads (named Q.reads G.is_absent)) (length self.now.begin)
-            (F.pre self.now.patterns) (F.post self.now.patterns) }
+        requires patterns { knot.Pats X.reads (named Q.reads G.is_absent) self.now.begin self.now.patterns F.pre F.post }
         requires few { ahead input.old ≤ length self.now.begin }
         ensures parses { Parses (reading.single X.reads
             (named Q.reads G.is_absent) (knot.pats_below X.reads (named Q.reads G.is_absent) (length self.now.begin)))
@@ -201,8 +198,7 @@ impl<
         leading_vert: Option<Or>,
         first: Boxed<PatOver<X, G, Q, T>>,
     ) -> Result<Boxed<PatOver<X, G, Q, T>>, Error>
-        requires patterns { Nests (knot.pat X.reads (named Q.reads G.is_absent)) (length self.now.begin)
-            (F.pre self.now.patterns) (F.post self.now.patterns) }
+        requires patterns { knot.Pats X.reads (named Q.reads G.is_absent) self.now.begin self.now.patterns F.pre F.post }
         requires few { ahead input.old ≤ length self.now.begin }
         ensures parses { Parses (reading.alternatives
             (knot.pats_below X.reads (named Q.reads G.is_absent) (length self.now.begin)) leading_vert first)
@@ -225,8 +221,7 @@ impl<
     /// Patterns joined by `|`, of which the first may have one before it.
     #[tactic(auto, using(token_core::proofs::Suffixes::follows, syn_forms::proofs::nested_laws::Ahead::later), unfolding(crate::specs::pat::Reading::leading))]
     fn leading(&self, input: &mut ParseStream<'_>) -> Result<Boxed<PatOver<X, G, Q, T>>, Error>
-        requires patterns { Nests (knot.pat X.reads (named Q.reads G.is_absent)) (length self.now.begin)
-            (F.pre self.now.patterns) (F.post self.now.patterns) }
+        requires patterns { knot.Pats X.reads (named Q.reads G.is_absent) self.now.begin self.now.patterns F.pre F.post }
         requires few { ahead input.old ≤ length self.now.begin }
         ensures parses { Parses (reading.leading X.reads
             (named Q.reads G.is_absent) (knot.pats_below X.reads (named Q.reads G.is_absent) (length self.now.begin)))
@@ -240,8 +235,7 @@ impl<
     /// Patterns joined by `|`.
     #[tactic(auto, using(token_core::proofs::Suffixes::follows, syn_forms::proofs::nested_laws::Ahead::later), unfolding(crate::specs::pat::Reading::multi))]
     fn multi(&self, input: &mut ParseStream<'_>) -> Result<Boxed<PatOver<X, G, Q, T>>, Error>
-        requires patterns { Nests (knot.pat X.reads (named Q.reads G.is_absent)) (length self.now.begin)
-            (F.pre self.now.patterns) (F.post self.now.patterns) }
+        requires patterns { knot.Pats X.reads (named Q.reads G.is_absent) self.now.begin self.now.patterns F.pre F.post }
         requires few { ahead input.old ≤ length self.now.begin }
         ensures parses { Parses (reading.multi X.reads
             (named Q.reads G.is_absent) (knot.pats_below X.reads (named Q.reads G.is_absent) (length self.now.begin)))
@@ -254,8 +248,7 @@ impl<
     /// An element of a slice.
     #[tactic(auto, using(token_core::proofs::Suffixes::follows, syn_forms::proofs::nested_laws::Ahead::later), unfolding(crate::specs::pat::Reading::element))]
     fn element(&self, input: &mut ParseStream<'_>) -> Result<Boxed<PatOver<X, G, Q, T>>, Error>
-        requires patterns { Nests (knot.pat X.reads (named Q.reads G.is_absent)) (length self.now.begin)
-            (F.pre self.now.patterns) (F.post self.now.patterns) }
+        requires patterns { knot.Pats X.reads (named Q.reads G.is_absent) self.now.begin self.now.patterns F.pre F.post }
         requires few { ahead input.old ≤ length self.now.begin }
         ensures parses { Parses (reading.element X.reads
             (named Q.reads G.is_absent) (knot.pats_below X.reads (named Q.reads G.is_absent) (length self.now.begin)))
@@ -272,8 +265,7 @@ impl<
         input: &mut ParseStream<'_>,
         place: PatPlace,
     ) -> Result<Boxed<PatOver<X, G, Q, T>>, Error>
-        requires patterns { Nests (knot.pat X.reads (named Q.reads G.is_absent)) (length self.now.begin)
-            (F.pre self.now.patterns) (F.post self.now.patterns) }
+        requires patterns { knot.Pats X.reads (named Q.reads G.is_absent) self.now.begin self.now.patterns F.pre F.post }
         requires few { ahead input.old ≤ length self.now.begin }
         ensures parses { Parses (reading.pat_step X.reads (named Q.reads G.is_absent)
             (knot.pats_below X.reads (named Q.reads G.is_absent) (length self.now.begin)) place)

@@ -1,7 +1,7 @@
 //! Types that begin with a path or an invisible group, and what goes on after them.
 
 ghost use Rattle.std.specs.Prelude.{◌<◌, ◌≤◌, length};
-ghost use Rattle.syn_forms.specs.nested.Below.{Nests, ahead};
+ghost use Rattle.syn_forms.specs.nested.Below.{ahead};
 ghost use Rattle.syn_ty.specs.ty.Knot as knot;
 ghost use Rattle.syn_ty.specs.ty.Reading as reading;
 ghost use Rattle.token_core.specs.Reads.{Parses};
@@ -48,18 +48,18 @@ impl<
     'a,
     A: Attributes,
     E: Value,
-    F,
-    G: Fn(
+    Types,
+    Bounds: Fn(
         Global,
         PhantomData<TypeParamBoundOf<A, E>>,
         &mut ParseStream<'_>,
         BoundPlace,
     ) -> Result<Boxed<TypeParamBoundOf<A, E>>, Error>
         + Copy,
-    H,
-    I,
-    J,
-> Grammar<'a, A, E, F, G, H, I, J> {
+    Params,
+    Args,
+    Segments,
+> Grammar<'a, A, E, Types, Bounds, Params, Args, Segments> {
     /// A trait object that begins with a path, after a binder that may stand before it.
     #[tactic(auto, using(token_core::proofs::Suffixes::follows))]
     pub(crate) fn path_object(
@@ -69,8 +69,7 @@ impl<
         lifetimes: Option<BoundLifetimesOf<GenericParamOf<A, E>>>,
         path: PathOf<PathArgumentsOf<A, E>>,
     ) -> Result<Boxed<TypeOf<A, E>>, Error>
-        requires bounds { Nests (knot.bound A.reads E.reads) (length self.now.begin)
-            (G.pre self.now.bounds) (G.post self.now.bounds) }
+        requires bounds { knot.Bounds A.reads E.reads self.now.begin self.now.bounds Bounds.pre Bounds.post }
         requires few { ahead input.old ≤ length self.now.begin }
         ensures parses { Parses
             (reading.path_object (knot.reads_below A.reads E.reads (length self.now.begin)) plus lifetimes path)
@@ -90,8 +89,7 @@ impl<
         lifetimes: Option<BoundLifetimesOf<GenericParamOf<A, E>>>,
         path: PathOf<PathArgumentsOf<A, E>>,
     ) -> Result<Boxed<TypeOf<A, E>>, Error>
-        requires bounds { Nests (knot.bound A.reads E.reads) (length self.now.begin)
-            (G.pre self.now.bounds) (G.post self.now.bounds) }
+        requires bounds { knot.Bounds A.reads E.reads self.now.begin self.now.bounds Bounds.pre Bounds.post }
         requires few { ahead input.old ≤ length self.now.begin }
         ensures parses { Parses
             (reading.after_path (knot.reads_below A.reads E.reads (length self.now.begin)) plus lifetimes path)
@@ -118,8 +116,7 @@ impl<
         qself: Option<QSelfOf<TypeOf<A, E>>>,
         path: PathOf<PathArgumentsOf<A, E>>,
     ) -> Result<Boxed<TypeOf<A, E>>, Error>
-        requires bounds { Nests (knot.bound A.reads E.reads) (length self.now.begin)
-            (G.pre self.now.bounds) (G.post self.now.bounds) }
+        requires bounds { knot.Bounds A.reads E.reads self.now.begin self.now.bounds Bounds.pre Bounds.post }
         requires few { ahead input.old ≤ length self.now.begin }
         ensures parses { Parses (reading.path_or_object (knot.reads_below A.reads E.reads (length self.now.begin))
             plus lifetimes (qself, path))
@@ -139,18 +136,18 @@ impl<
     'a,
     A: Attributes,
     E: Value,
-    F,
-    G,
-    H,
-    I,
-    J: Fn(
+    Types,
+    Bounds,
+    Params,
+    Args,
+    Segments: Fn(
         Global,
         PhantomData<PathArgumentsOf<A, E>>,
         &mut ParseStream<'_>,
         (),
     ) -> Result<Boxed<PathArgumentsOf<A, E>>, Error>
         + Copy,
-> Grammar<'a, A, E, F, G, H, I, J> {
+> Grammar<'a, A, E, Types, Bounds, Params, Args, Segments> {
     // ---- invisible groups
 
     /// After an invisible group that `::` and an identifier follow: a path goes on with them, and another type qualifies the path after it.
@@ -161,8 +158,7 @@ impl<
         group_token: GroupToken,
         ty: TypeOf<A, E>,
     ) -> Result<Boxed<TypeOf<A, E>>, Error>
-        requires segments { Nests (knot.arguments_in A.reads E.reads) (length self.now.begin)
-            (J.pre self.now.segments) (J.post self.now.segments) }
+        requires segments { knot.Segments A.reads E.reads self.now.begin self.now.segments Segments.pre Segments.post }
         requires few { ahead input.old ≤ length self.now.begin }
         ensures parses { Parses (reading.group_with_segments (knot.reads_below A.reads E.reads (length self.now.begin))
             group_token ty (reading.as_path ty))
@@ -194,8 +190,7 @@ impl<
         input: &mut ParseStream<'_>,
         ty: TypePathOf<A, E>,
     ) -> Result<Boxed<TypeOf<A, E>>, Error>
-        requires segments { Nests (knot.arguments_in A.reads E.reads) (length self.now.begin)
-            (J.pre self.now.segments) (J.post self.now.segments) }
+        requires segments { knot.Segments A.reads E.reads self.now.begin self.now.segments Segments.pre Segments.post }
         requires few { ahead input.old < length self.now.begin }
         ensures parses { Parses (reading.with_arguments (knot.reads_below A.reads E.reads (length self.now.begin)) ty)
             result input.old input.new }
@@ -219,8 +214,7 @@ impl<
         group_token: GroupToken,
         ty: TypeOf<A, E>,
     ) -> Result<Boxed<TypeOf<A, E>>, Error>
-        requires segments { Nests (knot.arguments_in A.reads E.reads) (length self.now.begin)
-            (J.pre self.now.segments) (J.post self.now.segments) }
+        requires segments { knot.Segments A.reads E.reads self.now.begin self.now.segments Segments.pre Segments.post }
         requires few { ahead input.old < length self.now.begin }
         ensures parses { Parses (reading.group_with_arguments (knot.reads_below A.reads E.reads (length self.now.begin))
             group_token ty (reading.as_path ty))
@@ -251,8 +245,7 @@ impl<
         group_token: GroupToken,
         elem: Boxed<TypeOf<A, E>>,
     ) -> Result<Boxed<TypeOf<A, E>>, Error>
-        requires segments { Nests (knot.arguments_in A.reads E.reads) (length self.now.begin)
-            (J.pre self.now.segments) (J.post self.now.segments) }
+        requires segments { knot.Segments A.reads E.reads self.now.begin self.now.segments Segments.pre Segments.post }
         requires few { ahead input.old < length self.now.begin }
         ensures parses { Parses
             (reading.group_without_segments (knot.reads_below A.reads E.reads (length self.now.begin)) group_token elem)
@@ -276,8 +269,7 @@ impl<
         group_token: GroupToken,
         elem: Boxed<TypeOf<A, E>>,
     ) -> Result<Boxed<TypeOf<A, E>>, Error>
-        requires segments { Nests (knot.arguments_in A.reads E.reads) (length self.now.begin)
-            (J.pre self.now.segments) (J.post self.now.segments) }
+        requires segments { knot.Segments A.reads E.reads self.now.begin self.now.segments Segments.pre Segments.post }
         requires few { ahead input.old < length self.now.begin }
         ensures parses { Parses
             (reading.after_group (knot.reads_below A.reads E.reads (length self.now.begin)) (group_token, elem))
@@ -294,24 +286,24 @@ impl<
     'a,
     A: Attributes,
     E: Value,
-    F: Fn(
+    Types: Fn(
         Global,
         PhantomData<TypeOf<A, E>>,
         &mut ParseStream<'_>,
         TypePlace,
     ) -> Result<Boxed<TypeOf<A, E>>, Error>
         + Copy,
-    G,
-    H,
-    I,
-    J: Fn(
+    Bounds,
+    Params,
+    Args,
+    Segments: Fn(
         Global,
         PhantomData<PathArgumentsOf<A, E>>,
         &mut ParseStream<'_>,
         (),
     ) -> Result<Boxed<PathArgumentsOf<A, E>>, Error>
         + Copy,
-> Grammar<'a, A, E, F, G, H, I, J> {
+> Grammar<'a, A, E, Types, Bounds, Params, Args, Segments> {
     /// A type in an invisible group, and what goes on with it (syn's `ambig_ty` at a group).
     #[tactic(auto, using(token_core::proofs::Suffixes::follows, syn_forms::proofs::nested_laws::Ahead::later), unfolding(crate::specs::ty::Reading::group_type))]
     #[inline(never)]
@@ -319,10 +311,8 @@ impl<
         &self,
         input: &mut ParseStream<'_>,
     ) -> Result<Boxed<TypeOf<A, E>>, Error>
-        requires types { Nests (knot.ty A.reads E.reads) (length self.now.begin)
-            (F.pre self.now.types) (F.post self.now.types) }
-        requires segments { Nests (knot.arguments_in A.reads E.reads) (length self.now.begin)
-            (J.pre self.now.segments) (J.post self.now.segments) }
+        requires types { knot.Types A.reads E.reads self.now.begin self.now.types Types.pre Types.post }
+        requires segments { knot.Segments A.reads E.reads self.now.begin self.now.segments Segments.pre Segments.post }
         requires few { ahead input.old ≤ length self.now.begin }
         ensures parses { Parses (reading.group_type (knot.reads_below A.reads E.reads (length self.now.begin)))
             result input.old input.new }

@@ -8,7 +8,8 @@ ghost use Rattle.token_core.specs.Reads.{Parses};
 
 use crate::generics::read::optional_binder_from;
 use crate::generics::{BoundLifetimesOf, GenericParamOf, TypeParamBoundOf};
-use crate::grammar::{Grammar, read_bound, read_type};
+use crate::grammar::Grammar;
+use crate::knot::{read_bound, read_type};
 use crate::path::read::{bare_path_type, maybe_qualified_from, return_of};
 use crate::ty::read::parts::{
     bare_array, bare_group, bare_paren, bare_ptr, bare_reference, bare_slice, bare_trait_object,

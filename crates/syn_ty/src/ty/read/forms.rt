@@ -3,7 +3,7 @@
 ghost use Rattle.std.specs.Prelude.{◌<◌, ◌≤◌, length};
 ghost use Rattle.syn_forms.specs.declared.places.TypePlace.TheVariants.{Plus};
 ghost use Rattle.syn_forms.specs.groups.Reading as content;
-ghost use Rattle.syn_forms.specs.nested.Below.{Nests, ahead};
+ghost use Rattle.syn_forms.specs.nested.Below.{ahead};
 ghost use Rattle.syn_ty.specs.ty.Knot as knot;
 ghost use Rattle.syn_ty.specs.ty.Points.{a_type};
 ghost use Rattle.syn_ty.specs.ty.Reading as reading;
@@ -24,18 +24,18 @@ impl<
     'a,
     A: Attributes,
     E: Value,
-    F: Fn(
+    Types: Fn(
         Global,
         PhantomData<TypeOf<A, E>>,
         &mut ParseStream<'_>,
         TypePlace,
     ) -> Result<Boxed<TypeOf<A, E>>, Error>
         + Copy,
-    G,
-    H,
-    I,
-    J,
-> Grammar<'a, A, E, F, G, H, I, J> {
+    Bounds,
+    Params,
+    Args,
+    Segments,
+> Grammar<'a, A, E, Types, Bounds, Params, Args, Segments> {
     /// `*const T`, `*mut T`, the type without plus.
     #[tactic(auto, using(token_core::proofs::Suffixes::follows), unfolding(crate::specs::ty::Reading::ptr))]
     #[inline(never)]
@@ -43,8 +43,7 @@ impl<
         &self,
         input: &mut ParseStream<'_>,
     ) -> Result<TypePtrOf<TypeOf<A, E>, A>, Error>
-        requires types { Nests (knot.ty A.reads E.reads) (length self.now.begin)
-            (F.pre self.now.types) (F.post self.now.types) }
+        requires types { knot.Types A.reads E.reads self.now.begin self.now.types Types.pre Types.post }
         requires few { ahead input.old ≤ length self.now.begin }
         ensures parses { Parses (reading.ptr (knot.reads_below A.reads E.reads (length self.now.begin)))
             result input.old input.new }
@@ -60,8 +59,7 @@ impl<
         &self,
         input: &mut ParseStream<'_>,
     ) -> Result<TypeReferenceOf<TypeOf<A, E>, A>, Error>
-        requires types { Nests (knot.ty A.reads E.reads) (length self.now.begin)
-            (F.pre self.now.types) (F.post self.now.types) }
+        requires types { knot.Types A.reads E.reads self.now.begin self.now.types Types.pre Types.post }
         requires few { ahead input.old ≤ length self.now.begin }
         ensures parses { Parses (reading.reference (knot.reads_below A.reads E.reads (length self.now.begin)))
             result input.old input.new }
@@ -77,8 +75,7 @@ impl<
         &self,
         input: &mut ParseStream<'_>,
     ) -> Result<Boxed<TypeOf<A, E>>, Error>
-        requires types { Nests (knot.ty A.reads E.reads) (length self.now.begin)
-            (F.pre self.now.types) (F.post self.now.types) }
+        requires types { knot.Types A.reads E.reads self.now.begin self.now.types Types.pre Types.post }
         requires few { ahead input.old ≤ length self.now.begin }
         ensures parses { Parses
             (reading.slice_or_array E.reads (knot.reads_below A.reads E.reads (length self.now.begin)))
@@ -98,8 +95,7 @@ impl<
         &self,
         input: &mut ParseStream<'_>,
     ) -> Result<ParenContent<TypeOf<A, E>, O, Q>, Error>
-        requires types { Nests (knot.ty A.reads E.reads) (length self.now.begin)
-            (F.pre self.now.types) (F.post self.now.types) }
+        requires types { knot.Types A.reads E.reads self.now.begin self.now.types Types.pre Types.post }
         requires few { ahead input.old < length self.now.begin }
         ensures parses { Parses
             (content.type_or_elements (knot.reads_below A.reads E.reads (length self.now.begin) (a_type Plus)))
@@ -115,8 +111,7 @@ impl<
         input: &mut ParseStream<'_>,
         place: TypePlace,
     ) -> Result<ReturnTypeOf<TypeOf<A, E>>, Error>
-        requires types { Nests (knot.ty A.reads E.reads) (length self.now.begin)
-            (F.pre self.now.types) (F.post self.now.types) }
+        requires types { knot.Types A.reads E.reads self.now.begin self.now.types Types.pre Types.post }
         requires few { ahead input.old ≤ length self.now.begin }
         ensures parses { Parses (reading.return_type (knot.reads_below A.reads E.reads (length self.now.begin)) place)
             result input.old input.new }

@@ -1,7 +1,7 @@
 //! Pointers to functions, and what may follow a binder.
 
 ghost use Rattle.std.specs.Prelude.{◌≡◌, ◌<◌, ◌≤◌, length};
-ghost use Rattle.syn_forms.specs.nested.Below.{Nests, ahead};
+ghost use Rattle.syn_forms.specs.nested.Below.{ahead};
 ghost use Rattle.syn_ty.specs.ty.Knot as knot;
 ghost use Rattle.syn_ty.specs.ty.Reading as reading;
 ghost use Rattle.syn_path.specs.declared.path.PathStyle.TheVariants as styles;
@@ -47,23 +47,22 @@ impl<
     'a,
     A: Attributes,
     E: Value,
-    F: Fn(
+    Types: Fn(
         Global,
         PhantomData<TypeOf<A, E>>,
         &mut ParseStream<'_>,
         TypePlace,
     ) -> Result<Boxed<TypeOf<A, E>>, Error>
         + Copy,
-    G,
-    H,
-    I,
-    J,
-> Grammar<'a, A, E, F, G, H, I, J> {
+    Bounds,
+    Params,
+    Args,
+    Segments,
+> Grammar<'a, A, E, Types, Bounds, Params, Args, Segments> {
     /// The arguments of a pointer to a function, in parentheses.
     #[tactic(auto, using(token_core::proofs::Suffixes::follows, syn_forms::proofs::nested_laws::Ahead::later), unfolding(crate::specs::ty::Reading::fn_inputs))]
     pub(crate) fn fn_ptr_inputs(&self, input: &mut ParseStream<'_>) -> Result<FnInputs<A, E>, Error>
-        requires types { Nests (knot.ty A.reads E.reads) (length self.now.begin)
-            (F.pre self.now.types) (F.post self.now.types) }
+        requires types { knot.Types A.reads E.reads self.now.begin self.now.types Types.pre Types.post }
         requires few { ahead input.old ≤ length self.now.begin }
         ensures parses { Parses
             (reading.fn_inputs A.reads E.reads (knot.reads_below A.reads E.reads (length self.now.begin)))
@@ -80,8 +79,7 @@ impl<
     /// A pointer to a function by its parts, after its binder.
     #[tactic(auto, using(token_core::proofs::Suffixes::follows), unfolding(crate::specs::ty::Reading::fn_ptr_parts))]
     fn fn_ptr_parts(&self, input: &mut ParseStream<'_>) -> Result<FnPtrParts<A, E>, Error>
-        requires types { Nests (knot.ty A.reads E.reads) (length self.now.begin)
-            (F.pre self.now.types) (F.post self.now.types) }
+        requires types { knot.Types A.reads E.reads self.now.begin self.now.types Types.pre Types.post }
         requires few { ahead input.old ≤ length self.now.begin }
         ensures parses { Parses
             (reading.fn_ptr_parts A.reads E.reads (knot.reads_below A.reads E.reads (length self.now.begin)))
@@ -102,8 +100,7 @@ impl<
         input: &mut ParseStream<'_>,
         lifetimes: Option<BoundLifetimesOf<GenericParamOf<A, E>>>,
     ) -> Result<TypeFnPtrOf<A, E>, Error>
-        requires types { Nests (knot.ty A.reads E.reads) (length self.now.begin)
-            (F.pre self.now.types) (F.post self.now.types) }
+        requires types { knot.Types A.reads E.reads self.now.begin self.now.types Types.pre Types.post }
         requires few { ahead input.old ≤ length self.now.begin }
         ensures parses { Parses
             (reading.fn_ptr_after A.reads E.reads (knot.reads_below A.reads E.reads (length self.now.begin)) lifetimes)
@@ -121,8 +118,7 @@ impl<
         input: &mut ParseStream<'_>,
         lifetimes: Option<BoundLifetimesOf<GenericParamOf<A, E>>>,
     ) -> Result<Boxed<TypeOf<A, E>>, Error>
-        requires types { Nests (knot.ty A.reads E.reads) (length self.now.begin)
-            (F.pre self.now.types) (F.post self.now.types) }
+        requires types { knot.Types A.reads E.reads self.now.begin self.now.types Types.pre Types.post }
         requires few { ahead input.old ≤ length self.now.begin }
         ensures parses { Parses (λ s. and_then
             (reading.fn_ptr_after A.reads E.reads (knot.reads_below A.reads E.reads (length self.now.begin)) lifetimes s)
@@ -141,8 +137,7 @@ impl<
         from: &Cursor<'_>,
         place: TypePlace,
     ) -> Result<Boxed<TypeOf<A, E>>, Error>
-        requires types { Nests (knot.ty A.reads E.reads) (length self.now.begin)
-            (F.pre self.now.types) (F.post self.now.types) }
+        requires types { knot.Types A.reads E.reads self.now.begin self.now.types Types.pre Types.post }
         requires few { ahead input.old ≤ length self.now.begin }
         requires reached { IsReached (verbatim.position input.old) from.now }
         ensures parses { Parses
@@ -165,30 +160,30 @@ impl<
     'a,
     A: Attributes,
     E: Value,
-    F: Fn(
+    Types: Fn(
         Global,
         PhantomData<TypeOf<A, E>>,
         &mut ParseStream<'_>,
         TypePlace,
     ) -> Result<Boxed<TypeOf<A, E>>, Error>
         + Copy,
-    G: Fn(
+    Bounds: Fn(
         Global,
         PhantomData<TypeParamBoundOf<A, E>>,
         &mut ParseStream<'_>,
         BoundPlace,
     ) -> Result<Boxed<TypeParamBoundOf<A, E>>, Error>
         + Copy,
-    H,
-    I,
-    J: Fn(
+    Params,
+    Args,
+    Segments: Fn(
         Global,
         PhantomData<PathArgumentsOf<A, E>>,
         &mut ParseStream<'_>,
         (),
     ) -> Result<Boxed<PathArgumentsOf<A, E>>, Error>
         + Copy,
-> Grammar<'a, A, E, F, G, H, I, J> {
+> Grammar<'a, A, E, Types, Bounds, Params, Args, Segments> {
     /// A path, or a trait object that begins with one.
     #[tactic(auto, using(token_core::proofs::Suffixes::follows, syn_forms::proofs::nested_laws::Ahead::later))]
     #[inline(never)]
@@ -198,12 +193,9 @@ impl<
         plus: bool,
         lifetimes: Option<BoundLifetimesOf<GenericParamOf<A, E>>>,
     ) -> Result<Boxed<TypeOf<A, E>>, Error>
-        requires types { Nests (knot.ty A.reads E.reads) (length self.now.begin)
-            (F.pre self.now.types) (F.post self.now.types) }
-        requires bounds { Nests (knot.bound A.reads E.reads) (length self.now.begin)
-            (G.pre self.now.bounds) (G.post self.now.bounds) }
-        requires segments { Nests (knot.arguments_in A.reads E.reads) (length self.now.begin)
-            (J.pre self.now.segments) (J.post self.now.segments) }
+        requires types { knot.Types A.reads E.reads self.now.begin self.now.types Types.pre Types.post }
+        requires bounds { knot.Bounds A.reads E.reads self.now.begin self.now.bounds Bounds.pre Bounds.post }
+        requires segments { knot.Segments A.reads E.reads self.now.begin self.now.segments Segments.pre Segments.post }
         requires few { ahead input.old ≤ length self.now.begin }
         ensures parses { Parses (λ s. and_then
             (paths.maybe_qualified (knot.reads_below A.reads E.reads (length self.now.begin)) styles.AsWritten s)
@@ -225,12 +217,9 @@ impl<
         from: &Cursor<'_>,
         lifetimes: Option<BoundLifetimesOf<GenericParamOf<A, E>>>,
     ) -> Result<Boxed<TypeOf<A, E>>, Error>
-        requires types { Nests (knot.ty A.reads E.reads) (length self.now.begin)
-            (F.pre self.now.types) (F.post self.now.types) }
-        requires bounds { Nests (knot.bound A.reads E.reads) (length self.now.begin)
-            (G.pre self.now.bounds) (G.post self.now.bounds) }
-        requires segments { Nests (knot.arguments_in A.reads E.reads) (length self.now.begin)
-            (J.pre self.now.segments) (J.post self.now.segments) }
+        requires types { knot.Types A.reads E.reads self.now.begin self.now.types Types.pre Types.post }
+        requires bounds { knot.Bounds A.reads E.reads self.now.begin self.now.bounds Bounds.pre Bounds.post }
+        requires segments { knot.Segments A.reads E.reads self.now.begin self.now.segments Segments.pre Segments.post }
         requires few { ahead input.old ≤ length self.now.begin }
         requires reached { IsReached (verbatim.position input.old) from.now }
         ensures parses { Parses (reading.named_type A.reads E.reads
@@ -254,36 +243,36 @@ impl<
     'a,
     A: Attributes,
     E: Value,
-    F: Fn(
+    Types: Fn(
         Global,
         PhantomData<TypeOf<A, E>>,
         &mut ParseStream<'_>,
         TypePlace,
     ) -> Result<Boxed<TypeOf<A, E>>, Error>
         + Copy,
-    G: Fn(
+    Bounds: Fn(
         Global,
         PhantomData<TypeParamBoundOf<A, E>>,
         &mut ParseStream<'_>,
         BoundPlace,
     ) -> Result<Boxed<TypeParamBoundOf<A, E>>, Error>
         + Copy,
-    H: Fn(
+    Params: Fn(
         Global,
         PhantomData<GenericParamOf<A, E>>,
         &mut ParseStream<'_>,
         ParamPlace,
     ) -> Result<Boxed<GenericParamOf<A, E>>, Error>
         + Copy,
-    I,
-    J: Fn(
+    Args,
+    Segments: Fn(
         Global,
         PhantomData<PathArgumentsOf<A, E>>,
         &mut ParseStream<'_>,
         (),
     ) -> Result<Boxed<PathArgumentsOf<A, E>>, Error>
         + Copy,
-> Grammar<'a, A, E, F, G, H, I, J> {
+> Grammar<'a, A, E, Types, Bounds, Params, Args, Segments> {
     /// A type after its binder: a pointer to a function, or a trait object that begins with a path.
     #[tactic(auto, using(token_core::proofs::Suffixes::follows, syn_forms::proofs::verbatim_laws::Reached::later), unfolding(crate::specs::ty::Reading::bound_type))]
     #[inline(never)]
@@ -293,14 +282,10 @@ impl<
         place: TypePlace,
         from: &Cursor<'_>,
     ) -> Result<Boxed<TypeOf<A, E>>, Error>
-        requires types { Nests (knot.ty A.reads E.reads) (length self.now.begin)
-            (F.pre self.now.types) (F.post self.now.types) }
-        requires bounds { Nests (knot.bound A.reads E.reads) (length self.now.begin)
-            (G.pre self.now.bounds) (G.post self.now.bounds) }
-        requires params { Nests (knot.param A.reads E.reads) (length self.now.begin)
-            (H.pre self.now.params) (H.post self.now.params) }
-        requires segments { Nests (knot.arguments_in A.reads E.reads) (length self.now.begin)
-            (J.pre self.now.segments) (J.post self.now.segments) }
+        requires types { knot.Types A.reads E.reads self.now.begin self.now.types Types.pre Types.post }
+        requires bounds { knot.Bounds A.reads E.reads self.now.begin self.now.bounds Bounds.pre Bounds.post }
+        requires params { knot.Params A.reads E.reads self.now.begin self.now.params Params.pre Params.post }
+        requires segments { knot.Segments A.reads E.reads self.now.begin self.now.segments Segments.pre Segments.post }
         requires few { ahead input.old ≤ length self.now.begin }
         requires reached { IsReached (verbatim.position input.old) from.now }
         ensures parses { Parses (reading.bound_type A.reads E.reads

@@ -1,7 +1,7 @@
 //! Trait objects, types that a function picks, and what begins with parentheses.
 
 ghost use Rattle.std.specs.Prelude.{◌<◌, ◌≤◌, length, false, true};
-ghost use Rattle.syn_forms.specs.nested.Below.{Nests, ahead};
+ghost use Rattle.syn_forms.specs.nested.Below.{ahead};
 ghost use Rattle.syn_ty.specs.ty.Knot as knot;
 ghost use Rattle.syn_ty.specs.ty.Reading as reading;
 ghost use Rattle.syn_forms.specs.declared.places.BoundPlace.TheVariants.{Object, Opaque};
@@ -25,7 +25,7 @@ use crate::ty::{TypeImplTraitOf, TypeOf};
 use std::alloc::Global;
 use std::marker::PhantomData;
 use syn_forms::groups::ParenContent;
-use syn_forms::lists::{Bounds, EachBound};
+use syn_forms::lists::{Bounds as ToBoundsEnd, EachBound};
 use syn_forms::places::{BoundPlace, ParamPlace, TypePlace};
 use syn_forms::tokens::{open_parens, parse_any_lifetime, parse_dyn, parse_impl};
 use syn_forms::verbatim::{refuse_since, since};
@@ -80,26 +80,25 @@ impl<
     'a,
     A: Attributes,
     E: Value,
-    F,
-    G: Fn(
+    Types,
+    Bounds: Fn(
         Global,
         PhantomData<TypeParamBoundOf<A, E>>,
         &mut ParseStream<'_>,
         BoundPlace,
     ) -> Result<Boxed<TypeParamBoundOf<A, E>>, Error>
         + Copy,
-    H,
-    I,
-    J,
-> Grammar<'a, A, E, F, G, H, I, J> {
+    Params,
+    Args,
+    Segments,
+> Grammar<'a, A, E, Types, Bounds, Params, Args, Segments> {
     /// A bound of a trait object.
     #[tactic(auto, using(token_core::proofs::Suffixes::follows))]
     fn object_bound(
         &self,
         input: &mut ParseStream<'_>,
     ) -> Result<Boxed<TypeParamBoundOf<A, E>>, Error>
-        requires bounds { Nests (knot.bound A.reads E.reads) (length self.now.begin)
-            (G.pre self.now.bounds) (G.post self.now.bounds) }
+        requires bounds { knot.Bounds A.reads E.reads self.now.begin self.now.bounds Bounds.pre Bounds.post }
         requires few { ahead input.old < length self.now.begin }
         ensures parses { Parses (knot.reads_below A.reads E.reads (length self.now.begin) (a_bound Object))
             result input.old input.new }
@@ -115,14 +114,13 @@ impl<
         plus: bool,
         first: TypeParamBoundOf<A, E>,
     ) -> Result<Punctuated<TypeParamBoundOf<A, E>, Plus>, Error>
-        requires bounds { Nests (knot.bound A.reads E.reads) (length self.now.begin)
-            (G.pre self.now.bounds) (G.post self.now.bounds) }
+        requires bounds { knot.Bounds A.reads E.reads self.now.begin self.now.bounds Bounds.pre Bounds.post }
         requires few { ahead input.old ≤ length self.now.begin }
         ensures parses { Parses
             (bounds_from (knot.reads_below A.reads E.reads (length self.now.begin) (a_bound Object)) false plus first)
             result input.old input.new }
     {
-        let end = Bounds {
+        let end = ToBoundsEnd {
             consts: false,
             plus,
         };
@@ -139,8 +137,7 @@ impl<
         plus: bool,
         first: TypeParamBoundOf<A, E>,
     ) -> Result<Punctuated<TypeParamBoundOf<A, E>, Plus>, Error>
-        requires bounds { Nests (knot.bound A.reads E.reads) (length self.now.begin)
-            (G.pre self.now.bounds) (G.post self.now.bounds) }
+        requires bounds { knot.Bounds A.reads E.reads self.now.begin self.now.bounds Bounds.pre Bounds.post }
         requires few { ahead input.old ≤ length self.now.begin }
         ensures parses { Parses
             (reading.object_bounds (knot.reads_below A.reads E.reads (length self.now.begin)) from plus first)
@@ -157,8 +154,7 @@ impl<
         &self,
         input: &mut ParseStream<'_>,
     ) -> Result<Punctuated<TypeParamBoundOf<A, E>, Plus>, Error>
-        requires bounds { Nests (knot.bound A.reads E.reads) (length self.now.begin)
-            (G.pre self.now.bounds) (G.post self.now.bounds) }
+        requires bounds { knot.Bounds A.reads E.reads self.now.begin self.now.bounds Bounds.pre Bounds.post }
         requires few { ahead input.old ≤ length self.now.begin }
         ensures parses { Parses (reading.lifetime_object (knot.reads_below A.reads E.reads (length self.now.begin)))
             result input.old input.new }
@@ -176,8 +172,7 @@ impl<
         input: &mut ParseStream<'_>,
         plus: bool,
     ) -> Result<Boxed<TypeOf<A, E>>, Error>
-        requires bounds { Nests (knot.bound A.reads E.reads) (length self.now.begin)
-            (G.pre self.now.bounds) (G.post self.now.bounds) }
+        requires bounds { knot.Bounds A.reads E.reads self.now.begin self.now.bounds Bounds.pre Bounds.post }
         requires few { ahead input.old ≤ length self.now.begin }
         ensures parses { Parses (reading.dyn_type (knot.reads_below A.reads E.reads (length self.now.begin)) plus)
             result input.old input.new }
@@ -198,13 +193,12 @@ impl<
         input: &mut ParseStream<'_>,
         plus: bool,
     ) -> Result<Punctuated<TypeParamBoundOf<A, E>, Plus>, Error>
-        requires bounds { Nests (knot.bound A.reads E.reads) (length self.now.begin)
-            (G.pre self.now.bounds) (G.post self.now.bounds) }
+        requires bounds { knot.Bounds A.reads E.reads self.now.begin self.now.bounds Bounds.pre Bounds.post }
         requires few { ahead input.old < length self.now.begin }
         ensures parses { Parses (reading.opaque_bounds (knot.reads_below A.reads E.reads (length self.now.begin)) plus)
             result input.old input.new }
     {
-        let end = Bounds { consts: true, plus };
+        let end = ToBoundsEnd { consts: true, plus };
         self.bounds().list(input, BoundPlace::Opaque, end)
     }
 
@@ -216,8 +210,7 @@ impl<
         from: Span,
         plus: bool,
     ) -> Result<Punctuated<TypeParamBoundOf<A, E>, Plus>, Error>
-        requires bounds { Nests (knot.bound A.reads E.reads) (length self.now.begin)
-            (G.pre self.now.bounds) (G.post self.now.bounds) }
+        requires bounds { knot.Bounds A.reads E.reads self.now.begin self.now.bounds Bounds.pre Bounds.post }
         requires few { ahead input.old < length self.now.begin }
         ensures parses { Parses
             (reading.impl_bounds (knot.reads_below A.reads E.reads (length self.now.begin)) from plus)
@@ -234,8 +227,7 @@ impl<
         input: &mut ParseStream<'_>,
         plus: bool,
     ) -> Result<TypeImplTraitOf<TypeParamBoundOf<A, E>, A>, Error>
-        requires bounds { Nests (knot.bound A.reads E.reads) (length self.now.begin)
-            (G.pre self.now.bounds) (G.post self.now.bounds) }
+        requires bounds { knot.Bounds A.reads E.reads self.now.begin self.now.bounds Bounds.pre Bounds.post }
         requires few { ahead input.old ≤ length self.now.begin }
         ensures parses { Parses (reading.impl_trait (knot.reads_below A.reads E.reads (length self.now.begin)) plus)
             result input.old input.new }
@@ -253,8 +245,7 @@ impl<
         input: &mut ParseStream<'_>,
         first: TypeParamBoundOf<A, E>,
     ) -> Result<Boxed<TypeOf<A, E>>, Error>
-        requires bounds { Nests (knot.bound A.reads E.reads) (length self.now.begin)
-            (G.pre self.now.bounds) (G.post self.now.bounds) }
+        requires bounds { knot.Bounds A.reads E.reads self.now.begin self.now.bounds Bounds.pre Bounds.post }
         requires few { ahead input.old ≤ length self.now.begin }
         ensures parses { Parses
             (reading.each_object_from (knot.reads_below A.reads E.reads (length self.now.begin)) first)
@@ -275,8 +266,7 @@ impl<
         paren_token: Paren,
         elem: Boxed<TypeOf<A, E>>,
     ) -> Result<Boxed<TypeOf<A, E>>, Error>
-        requires bounds { Nests (knot.bound A.reads E.reads) (length self.now.begin)
-            (G.pre self.now.bounds) (G.post self.now.bounds) }
+        requires bounds { knot.Bounds A.reads E.reads self.now.begin self.now.bounds Bounds.pre Bounds.post }
         requires few { ahead input.old ≤ length self.now.begin }
         ensures parses { Parses (reading.paren_or_object (knot.reads_below A.reads E.reads (length self.now.begin))
             plus paren_token elem (reading.first_bound paren_token elem))
@@ -316,8 +306,7 @@ impl<
             TraitBoundOf<A, E>,
         >,
     ) -> Result<Boxed<TypeOf<A, E>>, Error>
-        requires bounds { Nests (knot.bound A.reads E.reads) (length self.now.begin)
-            (G.pre self.now.bounds) (G.post self.now.bounds) }
+        requires bounds { knot.Bounds A.reads E.reads self.now.begin self.now.bounds Bounds.pre Bounds.post }
         requires few { ahead input.old ≤ length self.now.begin }
         ensures parses { Parses
             (reading.of_parens (knot.reads_below A.reads E.reads (length self.now.begin)) plus paren_token held)
@@ -352,36 +341,36 @@ impl<
     'a,
     A: Attributes,
     E: Value,
-    F: Fn(
+    Types: Fn(
         Global,
         PhantomData<TypeOf<A, E>>,
         &mut ParseStream<'_>,
         TypePlace,
     ) -> Result<Boxed<TypeOf<A, E>>, Error>
         + Copy,
-    G: Fn(
+    Bounds: Fn(
         Global,
         PhantomData<TypeParamBoundOf<A, E>>,
         &mut ParseStream<'_>,
         BoundPlace,
     ) -> Result<Boxed<TypeParamBoundOf<A, E>>, Error>
         + Copy,
-    H: Fn(
+    Params: Fn(
         Global,
         PhantomData<GenericParamOf<A, E>>,
         &mut ParseStream<'_>,
         ParamPlace,
     ) -> Result<Boxed<GenericParamOf<A, E>>, Error>
         + Copy,
-    I,
-    J: Fn(
+    Args,
+    Segments: Fn(
         Global,
         PhantomData<PathArgumentsOf<A, E>>,
         &mut ParseStream<'_>,
         (),
     ) -> Result<Boxed<PathArgumentsOf<A, E>>, Error>
         + Copy,
-> Grammar<'a, A, E, F, G, H, I, J> {
+> Grammar<'a, A, E, Types, Bounds, Params, Args, Segments> {
     // ---- parentheses
 
     /// What parentheses hold: a trait object that begins with a lifetime, a trait bound that begins with `?`, a type, or the elements of a tuple.
@@ -393,14 +382,10 @@ impl<
         ParenContent<TypeOf<A, E>, Punctuated<TypeParamBoundOf<A, E>, Plus>, TraitBoundOf<A, E>>,
         Error,
     >
-        requires types { Nests (knot.ty A.reads E.reads) (length self.now.begin)
-            (F.pre self.now.types) (F.post self.now.types) }
-        requires bounds { Nests (knot.bound A.reads E.reads) (length self.now.begin)
-            (G.pre self.now.bounds) (G.post self.now.bounds) }
-        requires params { Nests (knot.param A.reads E.reads) (length self.now.begin)
-            (H.pre self.now.params) (H.post self.now.params) }
-        requires segments { Nests (knot.arguments_in A.reads E.reads) (length self.now.begin)
-            (J.pre self.now.segments) (J.post self.now.segments) }
+        requires types { knot.Types A.reads E.reads self.now.begin self.now.types Types.pre Types.post }
+        requires bounds { knot.Bounds A.reads E.reads self.now.begin self.now.bounds Bounds.pre Bounds.post }
+        requires params { knot.Params A.reads E.reads self.now.begin self.now.params Params.pre Params.post }
+        requires segments { knot.Segments A.reads E.reads self.now.begin self.now.segments Segments.pre Segments.post }
         requires few { ahead input.old < length self.now.begin }
         ensures parses { Parses (reading.paren_content (knot.reads_below A.reads E.reads (length self.now.begin)))
             result input.old input.new }
@@ -433,14 +418,10 @@ impl<
         ),
         Error,
     >
-        requires types { Nests (knot.ty A.reads E.reads) (length self.now.begin)
-            (F.pre self.now.types) (F.post self.now.types) }
-        requires bounds { Nests (knot.bound A.reads E.reads) (length self.now.begin)
-            (G.pre self.now.bounds) (G.post self.now.bounds) }
-        requires params { Nests (knot.param A.reads E.reads) (length self.now.begin)
-            (H.pre self.now.params) (H.post self.now.params) }
-        requires segments { Nests (knot.arguments_in A.reads E.reads) (length self.now.begin)
-            (J.pre self.now.segments) (J.post self.now.segments) }
+        requires types { knot.Types A.reads E.reads self.now.begin self.now.types Types.pre Types.post }
+        requires bounds { knot.Bounds A.reads E.reads self.now.begin self.now.bounds Bounds.pre Bounds.post }
+        requires params { knot.Params A.reads E.reads self.now.begin self.now.params Params.pre Params.post }
+        requires segments { knot.Segments A.reads E.reads self.now.begin self.now.segments Segments.pre Segments.post }
         requires few { ahead input.old ≤ length self.now.begin }
         ensures parses { Parses (reading.parens (knot.reads_below A.reads E.reads (length self.now.begin)))
             result input.old input.new }
@@ -459,14 +440,10 @@ impl<
         input: &mut ParseStream<'_>,
         plus: bool,
     ) -> Result<Boxed<TypeOf<A, E>>, Error>
-        requires types { Nests (knot.ty A.reads E.reads) (length self.now.begin)
-            (F.pre self.now.types) (F.post self.now.types) }
-        requires bounds { Nests (knot.bound A.reads E.reads) (length self.now.begin)
-            (G.pre self.now.bounds) (G.post self.now.bounds) }
-        requires params { Nests (knot.param A.reads E.reads) (length self.now.begin)
-            (H.pre self.now.params) (H.post self.now.params) }
-        requires segments { Nests (knot.arguments_in A.reads E.reads) (length self.now.begin)
-            (J.pre self.now.segments) (J.post self.now.segments) }
+        requires types { knot.Types A.reads E.reads self.now.begin self.now.types Types.pre Types.post }
+        requires bounds { knot.Bounds A.reads E.reads self.now.begin self.now.bounds Bounds.pre Bounds.post }
+        requires params { knot.Params A.reads E.reads self.now.begin self.now.params Params.pre Params.post }
+        requires segments { knot.Segments A.reads E.reads self.now.begin self.now.segments Segments.pre Segments.post }
         requires few { ahead input.old ≤ length self.now.begin }
         ensures parses { Parses (reading.paren_type (knot.reads_below A.reads E.reads (length self.now.begin)) plus)
             result input.old input.new }

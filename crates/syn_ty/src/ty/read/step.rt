@@ -1,7 +1,7 @@
 //! One turn of the reader of types.
 
 ghost use Rattle.std.specs.Prelude.{◌<◌, ◌≤◌, length};
-ghost use Rattle.syn_forms.specs.nested.Below.{Nests, ahead};
+ghost use Rattle.syn_forms.specs.nested.Below.{ahead};
 ghost use Rattle.syn_ty.specs.ty.Knot as knot;
 ghost use Rattle.syn_ty.specs.ty.Reading as reading;
 ghost use Rattle.token_core.specs.Reads.{Parses};
@@ -25,18 +25,18 @@ impl<
     'a,
     A: Attributes,
     E: Value,
-    F,
-    G: Fn(
+    Types,
+    Bounds: Fn(
         Global,
         PhantomData<TypeParamBoundOf<A, E>>,
         &mut ParseStream<'_>,
         BoundPlace,
     ) -> Result<Boxed<TypeParamBoundOf<A, E>>, Error>
         + Copy,
-    H,
-    I,
-    J,
-> Grammar<'a, A, E, F, G, H, I, J> {
+    Params,
+    Args,
+    Segments,
+> Grammar<'a, A, E, Types, Bounds, Params, Args, Segments> {
     /// A type that begins with `!`, `impl`, `_` or a lifetime.
     #[tactic(auto, using(token_core::proofs::Suffixes::follows), unfolding(crate::specs::ty::Reading::by_last_tokens))]
     #[inline(never)]
@@ -45,8 +45,7 @@ impl<
         input: &mut ParseStream<'_>,
         plus: bool,
     ) -> Result<Boxed<TypeOf<A, E>>, Error>
-        requires bounds { Nests (knot.bound A.reads E.reads) (length self.now.begin)
-            (G.pre self.now.bounds) (G.post self.now.bounds) }
+        requires bounds { knot.Bounds A.reads E.reads self.now.begin self.now.bounds Bounds.pre Bounds.post }
         requires few { ahead input.old ≤ length self.now.begin }
         ensures parses { Parses
             (reading.by_last_tokens A.reads E.reads (knot.reads_below A.reads E.reads (length self.now.begin)) plus)
@@ -85,24 +84,24 @@ impl<
     'a,
     A: Attributes,
     E: Value,
-    F: Fn(
+    Types: Fn(
         Global,
         PhantomData<TypeOf<A, E>>,
         &mut ParseStream<'_>,
         TypePlace,
     ) -> Result<Boxed<TypeOf<A, E>>, Error>
         + Copy,
-    G: Fn(
+    Bounds: Fn(
         Global,
         PhantomData<TypeParamBoundOf<A, E>>,
         &mut ParseStream<'_>,
         BoundPlace,
     ) -> Result<Boxed<TypeParamBoundOf<A, E>>, Error>
         + Copy,
-    H,
-    I,
-    J,
-> Grammar<'a, A, E, F, G, H, I, J> {
+    Params,
+    Args,
+    Segments,
+> Grammar<'a, A, E, Types, Bounds, Params, Args, Segments> {
     /// A type that begins with `dyn`, brackets, `*` or `&`, or as `by_last_tokens` reads it.
     #[tactic(auto, using(token_core::proofs::Suffixes::follows), unfolding(crate::specs::ty::Reading::by_token))]
     #[inline(never)]
@@ -111,10 +110,8 @@ impl<
         input: &mut ParseStream<'_>,
         plus: bool,
     ) -> Result<Boxed<TypeOf<A, E>>, Error>
-        requires types { Nests (knot.ty A.reads E.reads) (length self.now.begin)
-            (F.pre self.now.types) (F.post self.now.types) }
-        requires bounds { Nests (knot.bound A.reads E.reads) (length self.now.begin)
-            (G.pre self.now.bounds) (G.post self.now.bounds) }
+        requires types { knot.Types A.reads E.reads self.now.begin self.now.types Types.pre Types.post }
+        requires bounds { knot.Bounds A.reads E.reads self.now.begin self.now.bounds Bounds.pre Bounds.post }
         requires few { ahead input.old ≤ length self.now.begin }
         ensures parses { Parses
             (reading.by_token A.reads E.reads (knot.reads_below A.reads E.reads (length self.now.begin)) plus)
@@ -140,36 +137,36 @@ impl<
     'a,
     A: Attributes,
     E: Value,
-    F: Fn(
+    Types: Fn(
         Global,
         PhantomData<TypeOf<A, E>>,
         &mut ParseStream<'_>,
         TypePlace,
     ) -> Result<Boxed<TypeOf<A, E>>, Error>
         + Copy,
-    G: Fn(
+    Bounds: Fn(
         Global,
         PhantomData<TypeParamBoundOf<A, E>>,
         &mut ParseStream<'_>,
         BoundPlace,
     ) -> Result<Boxed<TypeParamBoundOf<A, E>>, Error>
         + Copy,
-    H: Fn(
+    Params: Fn(
         Global,
         PhantomData<GenericParamOf<A, E>>,
         &mut ParseStream<'_>,
         ParamPlace,
     ) -> Result<Boxed<GenericParamOf<A, E>>, Error>
         + Copy,
-    I,
-    J: Fn(
+    Args,
+    Segments: Fn(
         Global,
         PhantomData<PathArgumentsOf<A, E>>,
         &mut ParseStream<'_>,
         (),
     ) -> Result<Boxed<PathArgumentsOf<A, E>>, Error>
         + Copy,
-> Grammar<'a, A, E, F, G, H, I, J> {
+> Grammar<'a, A, E, Types, Bounds, Params, Args, Segments> {
     /// A type without a binder.
     #[tactic(auto, using(token_core::proofs::Suffixes::follows), unfolding(crate::specs::ty::Reading::unbound_type))]
     pub(crate) fn unbound_type(
@@ -178,14 +175,10 @@ impl<
         place: TypePlace,
         from: &Cursor<'_>,
     ) -> Result<Boxed<TypeOf<A, E>>, Error>
-        requires types { Nests (knot.ty A.reads E.reads) (length self.now.begin)
-            (F.pre self.now.types) (F.post self.now.types) }
-        requires bounds { Nests (knot.bound A.reads E.reads) (length self.now.begin)
-            (G.pre self.now.bounds) (G.post self.now.bounds) }
-        requires params { Nests (knot.param A.reads E.reads) (length self.now.begin)
-            (H.pre self.now.params) (H.post self.now.params) }
-        requires segments { Nests (knot.arguments_in A.reads E.reads) (length self.now.begin)
-            (J.pre self.now.segments) (J.post self.now.segments) }
+        requires types { knot.Types A.reads E.reads self.now.begin self.now.types Types.pre Types.post }
+        requires bounds { knot.Bounds A.reads E.reads self.now.begin self.now.bounds Bounds.pre Bounds.post }
+        requires params { knot.Params A.reads E.reads self.now.begin self.now.params Params.pre Params.post }
+        requires segments { knot.Segments A.reads E.reads self.now.begin self.now.segments Segments.pre Segments.post }
         requires few { ahead input.old ≤ length self.now.begin }
         requires reached { IsReached (verbatim.position input.old) from.now }
         ensures parses { Parses (reading.unbound_type A.reads E.reads
@@ -212,14 +205,10 @@ impl<
         input: &mut ParseStream<'_>,
         place: TypePlace,
     ) -> Result<Boxed<TypeOf<A, E>>, Error>
-        requires types { Nests (knot.ty A.reads E.reads) (length self.now.begin)
-            (F.pre self.now.types) (F.post self.now.types) }
-        requires bounds { Nests (knot.bound A.reads E.reads) (length self.now.begin)
-            (G.pre self.now.bounds) (G.post self.now.bounds) }
-        requires params { Nests (knot.param A.reads E.reads) (length self.now.begin)
-            (H.pre self.now.params) (H.post self.now.params) }
-        requires segments { Nests (knot.arguments_in A.reads E.reads) (length self.now.begin)
-            (J.pre self.now.segments) (J.post self.now.segments) }
+        requires types { knot.Types A.reads E.reads self.now.begin self.now.types Types.pre Types.post }
+        requires bounds { knot.Bounds A.reads E.reads self.now.begin self.now.bounds Bounds.pre Bounds.post }
+        requires params { knot.Params A.reads E.reads self.now.begin self.now.params Params.pre Params.post }
+        requires segments { knot.Segments A.reads E.reads self.now.begin self.now.segments Segments.pre Segments.post }
         requires few { ahead input.old ≤ length self.now.begin }
         ensures parses { Parses
             (reading.type_step A.reads E.reads (knot.reads_below A.reads E.reads (length self.now.begin)) place)
